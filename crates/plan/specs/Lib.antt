@@ -1,0 +1,5 @@
+pub mod Pieces
+pub mod Cutting
+pub mod Left
+pub mod Plans
+pub mod Lines

@@ -1,0 +1,4 @@
+pub mod Backward
+pub mod Fills
+pub mod Lines
+pub mod Timetables

@@ -1,0 +1,4 @@
+pub mod Resolved
+pub mod Schedules
+pub mod Texts
+pub mod Walks
