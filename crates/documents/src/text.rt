@@ -12,6 +12,7 @@ ghost use Rattle.fields.specs.Faults.{told};
 ghost use Rattle.fields.specs.Parts.{parts};
 ghost use Rattle.fields.specs.Left.{left, partOf, partIn};
 ghost use Rattle.documents.specs.Reading.{names, numberAt, momentAt, valueFields, values as valuesIn, readDocument};
+ghost use Rattle.documents.specs.Laws.{Accepting, Bounding};
 ghost use Rattle.documents.specs.Outlines.{elementAfter, outlineOf, readLines};
 use crate::document::Document;
 use crate::element::Element;
@@ -193,7 +194,9 @@ fn read_lines(len: usize, lines: &mut Reader) -> Result<Document, Rejection>
 
 // The document that a text carries, or the refusal that applies first.
 pub fn read_document(text: &[u8]) -> Result<Document, Rejection>
-    ensures { λ r. ⌜ told r ≡ readDocument (now (text .entry)) ⌝ }
+    ensures reads { λ r. ⌜ told r ≡ readDocument (now (text .entry)) ⌝ }
+    ensures accepting { λ _. ⌜ Accepting ⌝ }
+    ensures bounding { λ _. ⌜ Bounding ⌝ }
 {
     let len = text.len();
     if len == 0 || len > TEXT_LIMIT || text[len - 1] != LINE_FEED {

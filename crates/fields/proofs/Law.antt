@@ -7,12 +7,12 @@ use native.Mathlib.Omega.{arith}
 use lib.Dec.{eqb}
 use lib.ListN.{length}
 use Rattle.std.proofs.shelf.Tests.{eqb-true, eqb-false, cases-bool, cond-true, cond-false}
-use Rattle.fields.specs.Parts.{Part, longer, parts, joinBy, Lacks, Placed, Clear, Cut}
+use Rattle.fields.specs.Parts.{Part, longer, parts, bytesOf, joinBy, Lacks, Placed, Clear, Cut}
 
 -- what the law says of one list of parts
 record Cuts (sep k : ℕ) (bs : List ℕ) (ps : List Part) : Type 0 where
-  join : joinBy sep ps ≡ bs
-  clear : Clear sep ps
+  join : joinBy sep (bytesOf ps) ≡ bs
+  clear : Clear sep (bytesOf ps)
   placed : Placed k ps
 
 at-separator : (sep k b : ℕ) (bs : List ℕ) (p : Part) (ps : List Part) → b ≡ sep → Cuts sep (k + 1) bs (p ∷ ps) → Cuts sep k (b ∷ bs) (record { offset = k; bytes = [] } ∷ p ∷ ps)
@@ -39,4 +39,4 @@ pub cut-law : Cut
 cut-law sep k bs =
     let i = some-cut sep k bs in
     let e = sym (i .2) in
-    (subst (λ ps. joinBy sep ps ≡ bs) e (i .3 .join), subst (Clear sep) e (i .3 .clear), subst (Placed k) e (i .3 .placed))
+    (subst (λ ps. joinBy sep (bytesOf ps) ≡ bs) e (i .3 .join), subst (λ ps. Clear sep (bytesOf ps)) e (i .3 .clear), subst (Placed k) e (i .3 .placed))

@@ -43,25 +43,33 @@ abbrev pub rest : List Part → List Part
 rest [] = []
 rest (p ∷ ps) = ps
 
--- the parts with the separator between each two
-abbrev pub joinBy : ℕ → List Part → List ℕ
-joinBy sep [] = []
-joinBy sep (p ∷ []) = p .bytes
-joinBy sep (p ∷ q ∷ ps) = p .bytes ++ sep ∷ joinBy sep (q ∷ ps)
+-- the bytes of some parts
+abbrev pub bytesOf : List Part → List (List ℕ)
+bytesOf [] = []
+bytesOf (p ∷ ps) = p .bytes ∷ bytesOf ps
 
+-- texts with a separator between each two
+abbrev pub joinBy : ℕ → List (List ℕ) → List ℕ
+joinBy sep [] = []
+joinBy sep (t ∷ []) = t
+joinBy sep (t ∷ u ∷ ts) = t ++ sep ∷ joinBy sep (u ∷ ts)
+
+-- a text does not hold the separator
 abbrev pub Lacks : ℕ → List ℕ → Type 0
 Lacks sep [] = Unit {0}
 Lacks sep (b ∷ bs) = (b ≡ sep → ⊥) × Lacks sep bs
+
+-- none of some texts holds the separator
+abbrev pub Clear : ℕ → List (List ℕ) → Type 0
+Clear sep [] = Unit {0}
+Clear sep (t ∷ ts) = Lacks sep t × Clear sep ts
 
 -- each part begins one byte past the end of the part before
 abbrev pub Placed : ℕ → List Part → Type 0
 Placed k [] = Unit {0}
 Placed k (p ∷ ps) = (p .offset ≡ k) × Placed (k + length (p .bytes) + 1) ps
 
-abbrev pub Clear : ℕ → List Part → Type 0
-Clear sep [] = Unit {0}
-Clear sep (p ∷ ps) = Lacks sep (p .bytes) × Clear sep ps
-
--- what cutting a text at separators means
+-- the law of parts: with the separator between them they are the text, none holds it, and each stands at
+-- its offset
 abbrev pub Cut : Type 0
-Cut = (sep k : ℕ) (bs : List ℕ) → (joinBy sep (parts sep k bs) ≡ bs) × Clear sep (parts sep k bs) × Placed k (parts sep k bs)
+Cut = (sep k : ℕ) (bs : List ℕ) → (joinBy sep (bytesOf (parts sep k bs)) ≡ bs) × Clear sep (bytesOf (parts sep k bs)) × Placed k (parts sep k bs)
