@@ -21,18 +21,21 @@ use Rattle.documents.specs.declared.element.Element.{Element}
 -- one element more, in front of those whose least begin is known
 least-more : (e : Element) (es : List Element) (b w : Option ℕ) → e .begin ≡ w → IsLeast es b → IsLeast (e ∷ es) (leastOf b w (e .computed .begin))
 least-more e es None None f h = λ x m s. ⊎-elim (λ (q : x ≡ e). false≢true (sym (ap (λ (y : Element). isSome (y .begin)) q ∙ ap isSome f) ∙ s)) (λ (later : x ∈ es). h x later s) m
-least-more e es (Some b) None f h =
-    ((λ x m s. ⊎-elim (λ (q : x ≡ e). absurd (false≢true (sym (ap (λ (y : Element). isSome (y .begin)) q ∙ ap isSome f) ∙ s))) (λ (later : x ∈ es). h .0 x later s) m),
-    (h .1 .0, inr (h .1 .1), h .1 .2, h .1 .3))
-least-more e es None (Some w) f h =
-    ((λ x m s. ⊎-elim (λ (q : x ≡ e). let n = ap (λ (y : Element). y .computed .begin) q in omega (arith, n)) (λ (later : x ∈ es). absurd (h x later s)) m),
-    (e, inl refl, ap isSome f, refl))
-least-more e es (Some b) (Some w) f h =
-    ((λ x m s. ⊎-elim (λ (q : x ≡ e). let n = ap (λ (y : Element). y .computed .begin) q in omega (arith, n)) (λ (later : x ∈ es). omega (arith, h .0 x later s)) m),
-    ⊎-elim
-    (λ (k : b < e .computed .begin). (h .1 .0, inr (h .1 .1), h .1 .2, h .1 .3 ∙ omega arith))
-    (λ (k : e .computed .begin ≤ b). (e, inl refl, ap isSome f, omega arith))
-    (cases-lt b (e .computed .begin)))
+least-more e es (Some b) None f h = (
+  (λ x m s. ⊎-elim (λ (q : x ≡ e). absurd (false≢true (sym (ap (λ (y : Element). isSome (y .begin)) q ∙ ap isSome f) ∙ s))) (λ (later : x ∈ es). h .0 x later s) m),
+  (h .1 .0, inr (h .1 .1), h .1 .2, h .1 .3),
+)
+least-more e es None (Some w) f h = (
+  (λ x m s. ⊎-elim (λ (q : x ≡ e). let n = ap (λ (y : Element). y .computed .begin) q in omega (arith, n)) (λ (later : x ∈ es). absurd (h x later s)) m),
+  (e, inl refl, ap isSome f, refl),
+)
+least-more e es (Some b) (Some w) f h = (
+  (λ x m s. ⊎-elim (λ (q : x ≡ e). let n = ap (λ (y : Element). y .computed .begin) q in omega (arith, n)) (λ (later : x ∈ es). omega (arith, h .0 x later s)) m),
+  ⊎-elim
+      (λ (k : b < e .computed .begin). (h .1 .0, inr (h .1 .1), h .1 .2, h .1 .3 ∙ omega arith))
+      (λ (k : e .computed .begin ≤ b). (e, inl refl, ap isSome f, omega arith))
+      (cases-lt b (e .computed .begin)),
+)
 
 least : (es : List Element) → IsLeast es (leastBegin es)
 least [] = λ x m s. m
@@ -58,21 +61,24 @@ ended es all (r ∷ rows) k h = ended (h .0 ∷ es) all rows ((λ s. end-some (n
 -- one element more, in front of those whose greatest end is known
 most-more : (e : Element) (es : List Element) (b w c : Option ℕ) → e .end ≡ w → e .computed .end ≡ c → (isSome w ≡ true → isSome c ≡ true) → IsGreatest es b → IsGreatest (e ∷ es) (mostOf b w c)
 most-more e es None None c f g k h = λ x m s. ⊎-elim (λ (q : x ≡ e). false≢true (sym (ap (λ (y : Element). isSome (y .end)) q ∙ ap isSome f) ∙ s)) (λ (later : x ∈ es). h x later s) m
-most-more e es (Some b) None c f g k h =
-    ((λ x m s. ⊎-elim (λ (q : x ≡ e). absurd (false≢true (sym (ap (λ (y : Element). isSome (y .end)) q ∙ ap isSome f) ∙ s))) (λ (later : x ∈ es). h .0 x later s) m),
-    (h .1 .0, inr (h .1 .1), h .1 .2, h .1 .3))
+most-more e es (Some b) None c f g k h = (
+  (λ x m s. ⊎-elim (λ (q : x ≡ e). absurd (false≢true (sym (ap (λ (y : Element). isSome (y .end)) q ∙ ap isSome f) ∙ s))) (λ (later : x ∈ es). h .0 x later s) m),
+  (h .1 .0, inr (h .1 .1), h .1 .2, h .1 .3),
+)
 most-more e es b (Some w) None f g k h = absurd (false≢true (k refl))
-most-more e es None (Some w) (Some c) f g k h =
-    ((λ x m s. ⊎-elim (λ (q : x ≡ e). subst (EndsBy c) (sym (ap (λ (y : Element). y .computed .end) q ∙ g)) (omega arith)) (λ (later : x ∈ es). absurd (h x later s)) m),
-    (e, inl refl, ap isSome f, g))
-most-more e es (Some b) (Some w) (Some c) f g k h =
-    ((λ x m s. ⊎-elim
+most-more e es None (Some w) (Some c) f g k h = (
+  (λ x m s. ⊎-elim (λ (q : x ≡ e). subst (EndsBy c) (sym (ap (λ (y : Element). y .computed .end) q ∙ g)) (omega arith)) (λ (later : x ∈ es). absurd (h x later s)) m),
+  (e, inl refl, ap isSome f, g),
+)
+most-more e es (Some b) (Some w) (Some c) f g k h = (
+  (λ x m s. ⊎-elim
       (λ (q : x ≡ e). subst (EndsBy (max b c)) (sym (ap (λ (y : Element). y .computed .end) q ∙ g)) (omega arith))
       (λ (later : x ∈ es). ends-later b (max b c) (x .computed .end) (omega arith) (h .0 x later s)) m),
-    ⊎-elim
-    (λ (q : b < c). (e, inl refl, ap isSome f, g ∙ ap Some (omega arith)))
-    (λ (q : c ≤ b). (h .1 .0, inr (h .1 .1), h .1 .2, h .1 .3 ∙ ap Some (omega arith)))
-    (cases-lt b c))
+  ⊎-elim
+      (λ (q : b < c). (e, inl refl, ap isSome f, g ∙ ap Some (omega arith)))
+      (λ (q : c ≤ b). (h .1 .0, inr (h .1 .1), h .1 .2, h .1 .3 ∙ ap Some (omega arith)))
+      (cases-lt b c),
+)
   where
     ends-later : (a b : ℕ) (o : Option ℕ) → a ≤ b → EndsBy a o → EndsBy b o
     ends-later a b None h e = e
@@ -83,6 +89,7 @@ greatest [] k = λ x m s. m
 greatest (e ∷ es) k = most-more e es (greatestEnd es) (e .end) (e .computed .end) refl refl (k .0) (greatest es (k .1))
 
 pub bounding : Bounding
-bounding t d c =
-    (subst (IsLeast (c .elements)) (sym (c .beginIs)) (least (c .elements)),
-    subst (IsGreatest (c .elements)) (sym (c .endIs)) (greatest (c .elements) (ended [] (c .elements) (c .rows) tt (c .read))))
+bounding t d c = (
+  subst (IsLeast (c .elements)) (sym (c .beginIs)) (least (c .elements)),
+  subst (IsGreatest (c .elements)) (sym (c .endIs)) (greatest (c .elements) (ended [] (c .elements) (c .rows) tt (c .read))),
+)

@@ -155,12 +155,14 @@ element-fine n es p e h =
       begin = at-fine n (b .offset) _ (wb .0) (wb .1);
       end = at-fine n (f .offset) _ (we .0) (we .1);
       computedBegin = at-fine n (b .offset) _ (cb .0) (cb .1);
-      computedEnd = at-fine n (f .offset) _ (ce .0) (ce .1) } in
+      computedEnd = at-fine n (f .offset) _ (ce .0) (ce .1);
+    } in
     record {
       row = r;
       same = ap (λ (qs : List Part). joinBy 44 (bytesOf qs)) (sym three) ∙ cut .0;
       clear = subst (λ (qs : List Part). Clear 44 (bytesOf qs)) three (cut .1);
-      reads = subst (Reads es r) x-is reads }
+      reads = subst (Reads es r) x-is reads;
+    }
 
 element-is : (n : ℕ) (es : List Element) (p : Part) (r : Row) (e : Element) → p .bytes ≡ lineOf (fieldsIn r) → Clear 44 (fieldsIn r) → Reads es r e → element n (depthBefore es) (nearestIn es) p ≡ fine e
 element-is n es p r e same clear h =
@@ -173,12 +175,12 @@ element-is n es p r e same clear h =
     let parent : Computed = nearestIn es (e .depth - 1) in
     ap (λ (qs : List Part). cond (eqb (length qs) 3) (elementFields n (depthBefore es) (nearestIn es) (nthPart qs 0) (nthPart qs 1) (nthPart qs 2)) (refused 3 n (p .offset) 0)) all
     ∙ then-is (at n (l .0 .offset) (levelField (depthBefore es) (l .0 .bytes))) _ (e .depth) e (at-is n (l .0 .offset) _ (e .depth) (ap (levelField (depthBefore es)) (l .3) ∙ h .level))
-      (then-is (timeAt n (b .0)) _ (e .begin) e (at-is n (b .0 .offset) _ (e .begin) (ap optionalTime (b .3) ∙ h .begin))
-      (then-is (timeAt n (f .0)) _ (e .end) e (at-is n (f .0 .offset) _ (e .end) (ap optionalTime (f .3) ∙ h .end))
-      (then-is (computedAt n (b .0 .offset) (f .0 .offset) parent (e .begin) (e .end)) _ (e .computed) e
-        (then-is (at n (b .0 .offset) (beginOf parent (e .begin))) _ (e .computed .begin) (e .computed) (at-is n (b .0 .offset) _ (e .computed .begin) (h .computedBegin))
-        (then-is (at n (f .0 .offset) (endOf parent (e .end))) _ (e .computed .end) (e .computed) (at-is n (f .0 .offset) _ (e .computed .end) (h .computedEnd)) refl))
-        refl)))
+    (then-is (timeAt n (b .0)) _ (e .begin) e (at-is n (b .0 .offset) _ (e .begin) (ap optionalTime (b .3) ∙ h .begin))
+    (then-is (timeAt n (f .0)) _ (e .end) e (at-is n (f .0 .offset) _ (e .end) (ap optionalTime (f .3) ∙ h .end))
+    (then-is (computedAt n (b .0 .offset) (f .0 .offset) parent (e .begin) (e .end)) _ (e .computed) e
+    (then-is (at n (b .0 .offset) (beginOf parent (e .begin))) _ (e .computed .begin) (e .computed) (at-is n (b .0 .offset) _ (e .computed .begin) (h .computedBegin))
+    (then-is (at n (f .0 .offset) (endOf parent (e .end))) _ (e .computed .end) (e .computed) (at-is n (f .0 .offset) _ (e .computed .end) (h .computedEnd)) refl))
+    refl)))
 
 -- All element lines.
 
@@ -187,10 +189,11 @@ rows-fine n es all [] c h = ([], refl, same-fine es all h)
 rows-fine n es all (q ∷ qs) c h =
     let e = then-fine (element n (depthBefore es) (nearestIn es) q) _ all h in
     let r = element-fine n es q (e .0) (e .1) in
-    let more = rows-fine (n + 1) (e .0 ∷ es) all qs (c .1) (e .2) in
-    (r .row ∷ more .0,
-    ap₂ (λ (x : List ℕ) (xs : List (List ℕ)). x ∷ xs) (r .same) (more .1),
-    (e .0, (r .clear, subst (Lacks 10) (sym (r .same)) (c .0)), r .reads, more .2))
+    let more = rows-fine (n + 1) (e .0 ∷ es) all qs (c .1) (e .2) in (
+      r .row ∷ more .0,
+      ap₂ (λ (x : List ℕ) (xs : List (List ℕ)). x ∷ xs) (r .same) (more .1),
+      (e .0, (r .clear, subst (Lacks 10) (sym (r .same)) (c .0)), r .reads, more .2),
+    )
 
 rows-is : (n : ℕ) (es all : List Element) (rows : List Row) (qs : List Part) → bytesOf qs ≡ rowLines rows → AllRead es rows all → elementsAfter n es qs ≡ fine all
 rows-is n es all [] qs b h = ap (elementsAfter n es) (bytes-none qs b) ∙ ap fine h
@@ -229,13 +232,17 @@ values-fine len p v h =
     let cut = cut-law 44 (p .offset) (p .bytes) in
     let is = same-fine _ _ (d .2) in
     record {
-      number = a0 .bytes; available = a1 .bytes; content = a2 .bytes; dur = a3 .bytes;
+      number = a0 .bytes;
+      available = a1 .bytes;
+      content = a2 .bytes;
+      dur = a3 .bytes;
       same = ap (λ (qs : List Part). joinBy 44 (bytesOf qs)) (sym four) ∙ cut .0;
       clear = subst (λ (qs : List Part). Clear 44 (bytesOf qs)) four (cut .1);
       numberIs = at-fine 2 (a0 .offset) _ (n .0) (n .1) ∙ ap (λ (w : Values). good (w .number)) is;
       availableIs = at-fine 2 (a1 .offset) _ (a .0) (a .1) ∙ ap (λ (w : Values). good (w .available)) is;
       contentIs = at-fine 2 (a2 .offset) _ (k .0) (k .1) ∙ ap (λ (w : Values). good (w .content)) is;
-      durIs = at-fine 2 (a3 .offset) _ (d .0) (d .1) ∙ ap (λ (w : Values). good (w .dur)) is }
+      durIs = at-fine 2 (a3 .offset) _ (d .0) (d .1) ∙ ap (λ (w : Values). good (w .dur)) is;
+    }
 
 values-is : (len : ℕ) (p : Part) (v : Values) → ValuesOf p v → values len (Some p) ≡ fine v
 values-is len p v h =
@@ -248,9 +255,9 @@ values-is len p v h =
     let all : ps ≡ n .0 ∷ a .0 ∷ k .0 ∷ d .0 ∷ [] = n .2 ∙ ap (λ (qs : List Part). n .0 ∷ qs) (a .2 ∙ ap (λ (qs : List Part). a .0 ∷ qs) (k .2 ∙ ap (λ (qs : List Part). k .0 ∷ qs) (d .2 ∙ ap (λ (qs : List Part). d .0 ∷ qs) (bytes-none (d .1) (d .4))))) in
     ap (λ (qs : List Part). valueParts (p .offset) qs) all
     ∙ then-is (numberAt 1 (n .0)) _ (v .number) v (at-is 2 (n .0 .offset) _ (v .number) (ap (numberField 1) (n .3) ∙ h .numberIs))
-      (then-is (momentAt (a .0)) _ (v .available) v (at-is 2 (a .0 .offset) _ (v .available) (ap timeField (a .3) ∙ h .availableIs))
-      (then-is (numberAt 0 (k .0)) _ (v .content) v (at-is 2 (k .0 .offset) _ (v .content) (ap (numberField 0) (k .3) ∙ h .contentIs))
-      (then-is (timeAt 2 (d .0)) _ (v .dur) v (at-is 2 (d .0 .offset) _ (v .dur) (ap optionalTime (d .3) ∙ h .durIs)) refl)))
+    (then-is (momentAt (a .0)) _ (v .available) v (at-is 2 (a .0 .offset) _ (v .available) (ap timeField (a .3) ∙ h .availableIs))
+    (then-is (numberAt 0 (k .0)) _ (v .content) v (at-is 2 (k .0 .offset) _ (v .content) (ap (numberField 0) (k .3) ∙ h .contentIs))
+    (then-is (timeAt 2 (d .0)) _ (v .dur) v (at-is 2 (d .0 .offset) _ (v .dur) (ap optionalTime (d .3) ∙ h .durIs)) refl)))
 
 -- The whole text.
 
@@ -258,14 +265,15 @@ values-is len p v h =
 text-again : (t : List ℕ) → 1 ≤ length t → getD t (length t - 1) 0 ≡ 10 → (p : Part) (ps : List Part) → linesOf t ≡ p ∷ ps → (t ≡ textOf (bytesOf (linesOf t))) × Clear 10 (bytesOf (linesOf t))
 text-again t h e p ps l =
     let cut = cut-law 10 0 (take (length t - 1) t) in
-    let n : length t - 1 + 1 ≡ length t = omega arith in
-    (sym (take-all (length t - 1 + 1) t (omega arith))
-    ∙ take-more t (length t - 1) 0 (omega arith)
-    ∙ ap (λ b. take (length t - 1) t ++ b ∷ []) e
-    ∙ ap (λ (x : List ℕ). x ++ (10 ∷ [])) (sym (cut .0) ∙ ap (λ (qs : List Part). joinBy 10 (bytesOf qs)) l)
-    ∙ lines-text (p .bytes) (bytesOf ps)
-    ∙ ap (λ (qs : List Part). textOf (bytesOf qs)) (sym l),
-    cut .1)
+    let n : length t - 1 + 1 ≡ length t = omega arith in (
+      sym (take-all (length t - 1 + 1) t (omega arith))
+          ∙ take-more t (length t - 1) 0 (omega arith)
+          ∙ ap (λ b. take (length t - 1) t ++ b ∷ []) e
+          ∙ ap (λ (x : List ℕ). x ++ (10 ∷ [])) (sym (cut .0) ∙ ap (λ (qs : List Part). joinBy 10 (bytesOf qs)) l)
+          ∙ lines-text (p .bytes) (bytesOf ps)
+          ∙ ap (λ (qs : List Part). textOf (bytesOf qs)) (sym l),
+      cut .1,
+    )
 
 elements-some : (len : ℕ) (qs : List Part) (es : List Element) → elements len qs ≡ fine es → (elementsAfter 4 [] qs ≡ fine es) × (0 < length qs)
 elements-some len [] es h = let z : _≡_ {A = ℕ} 0 1 = cc in absurd (omega arith)
@@ -307,13 +315,17 @@ accepted t d h =
     let w = values-fine (length t) (p2 .0) (v .0) (p2 .2) in
     let is = same-fine _ _ (es .2) in
     record {
-      number = w .number; available = w .available; content = w .content; dur = w .dur;
-      rows = rows .0; elements = es .0;
+      number = w .number;
+      available = w .available;
+      content = w .content;
+      dur = w .dur;
+      rows = rows .0;
+      elements = es .0;
       text = again .0 ∙ ap (λ (qs : List Part). textOf (bytesOf qs)) all
-        ∙ ap (λ (x : List ℕ). textOf (x ∷ p2 .0 .bytes ∷ p3 .0 .bytes ∷ bytesOf (rest (rest (rest ps))))) (p1 .2)
-        ∙ ap (λ (x : List ℕ). textOf (valueNames ∷ x ∷ p3 .0 .bytes ∷ bytesOf (rest (rest (rest ps))))) (sym (w .same))
-        ∙ ap (λ (x : List ℕ). textOf (valueNames ∷ lineOf (w .number ∷ w .available ∷ w .content ∷ w .dur ∷ []) ∷ x ∷ bytesOf (rest (rest (rest ps))))) (p3 .2)
-        ∙ ap (λ (xs : List (List ℕ)). textOf (valueNames ∷ lineOf (w .number ∷ w .available ∷ w .content ∷ w .dur ∷ []) ∷ elementNames ∷ xs)) (sym (rows .1));
+          ∙ ap (λ (x : List ℕ). textOf (x ∷ p2 .0 .bytes ∷ p3 .0 .bytes ∷ bytesOf (rest (rest (rest ps))))) (p1 .2)
+          ∙ ap (λ (x : List ℕ). textOf (valueNames ∷ x ∷ p3 .0 .bytes ∷ bytesOf (rest (rest (rest ps))))) (sym (w .same))
+          ∙ ap (λ (x : List ℕ). textOf (valueNames ∷ lineOf (w .number ∷ w .available ∷ w .content ∷ w .dur ∷ []) ∷ x ∷ bytesOf (rest (rest (rest ps))))) (p3 .2)
+          ∙ ap (λ (xs : List (List ℕ)). textOf (valueNames ∷ lineOf (w .number ∷ w .available ∷ w .content ∷ w .dur ∷ []) ∷ elementNames ∷ xs)) (sym (rows .1));
       short = leb-true _ _ (g .0);
       some = omega (arith, some .1, length-bytes (rest (rest (rest ps))), length-rows (rows .0), ap length (rows .1));
       valueLine = (w .clear, subst (Lacks 10) (sym (w .same)) (clear .1 .0));
@@ -323,7 +335,8 @@ accepted t d h =
       durIs = w .durIs ∙ ap (λ (x : Document). good (x .dur)) is;
       read = rows .2;
       beginIs = sym (ap (λ (x : Document). x .begin) is);
-      endIs = sym (ap (λ (x : Document). x .end) is) }
+      endIs = sym (ap (λ (x : Document). x .end) is);
+    }
   where
     value-there : (len : ℕ) (o : Option Part) (v : Values) → values len o ≡ fine v → (p : Part) × (o ≡ Some p) × (values len (Some p) ≡ fine v)
     value-there len None v h = let z : _≡_ {A = ℕ} 0 1 = cc in absurd (omega arith)
@@ -366,10 +379,10 @@ accepts t d c =
     cond-true _ _ _ test
     ∙ ap (documentIn (length t)) all
     ∙ then-is (names (length t) 1 valueNames (Some (p1 .0))) _ tt d (names-is (length t) 1 valueNames (p1 .0) (p1 .3))
-      (then-is (values (length t) (Some (p2 .0))) _ v d (values-is (length t) (p2 .0) v w)
-      (then-is (names (length t) 3 elementNames (Some (p3 .0))) _ tt d (names-is (length t) 3 elementNames (p3 .0) (p3 .3))
-      (then-is (elements (length t) (p3 .1)) _ (c .elements) d (elements-is (length t) (p3 .1) (c .elements) many (rows-is 4 [] (c .elements) (c .rows) (p3 .1) (p3 .4) (c .read)))
-      (ap₂ (λ (b e : Option ℕ). fine (record { number = d .number; available = d .available; begin = b; end = e; dur = d .dur; content = d .content })) (sym (c .beginIs)) (sym (c .endIs))))))
+    (then-is (values (length t) (Some (p2 .0))) _ v d (values-is (length t) (p2 .0) v w)
+    (then-is (names (length t) 3 elementNames (Some (p3 .0))) _ tt d (names-is (length t) 3 elementNames (p3 .0) (p3 .3))
+    (then-is (elements (length t) (p3 .1)) _ (c .elements) d (elements-is (length t) (p3 .1) (c .elements) many (rows-is 4 [] (c .elements) (c .rows) (p3 .1) (p3 .4) (c .read)))
+    (ap₂ (λ (b e : Option ℕ). fine (record { number = d .number; available = d .available; begin = b; end = e; dur = d .dur; content = d .content })) (sym (c .beginIs)) (sym (c .endIs))))))
 
 pub accepting : Accepting
 accepting t d = (accepted t d, accepts t d)

@@ -88,7 +88,7 @@ end-least w d (e ∷ ds) l h a =
 end-first : (w : Window) (d : Document) (ds : List Document) (l : ℕ) → ownEnd w d ≤ l → Above (d .number) ds → resolvedEnd w (d ∷ ds) d ≡ min (ownEnd w d) (leastOf w l ds)
 end-first w d ds l h a = cond-false (ltb (d .number) (d .number)) _ _ (le-ltb _ _ (omega arith)) ∙ end-least w d ds l h a
 
-own-within : (w : Window) (d : Document) → ownEnd w d ≤ w .end
+pub own-within : (w : Window) (d : Document) → ownEnd w d ≤ w .end
 own-within w d = cut (w .end) (d .end) (plus (resolvedBegin w d) (d .dur))
   where
     cut : (a : ℕ) (b c : Option ℕ) → earlierOf (earlierOf a b) c ≤ a

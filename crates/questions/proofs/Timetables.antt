@@ -15,7 +15,7 @@ use Rattle.questions.specs.declared.schedule.Interval.{Interval}
 use Rattle.questions.specs.Resolved.{resolvedBegin, ownEnd}
 use Rattle.questions.specs.Schedules.{scheduleOf, _∈_, Follow, OnScreen, Timetable}
 use Rattle.questions.specs.Walks.{leastOf, cutInterval, intervalsBefore}
-use Rattle.questions.proofs.Backward.{Above, above-orderly, rising}
+use Rattle.questions.proofs.Backward.{Above, above-orderly, own-within, rising}
 
 follow-earlier : (n k j : ℕ) (is : List Interval) → j ≤ k → Follow n k is → Follow n j is
 follow-earlier n k j [] h f = tt
@@ -43,6 +43,8 @@ least-below w l (d ∷ ds) e m =
 -- a document with a smaller number changes nothing
 widen : (w : Window) (d : Document) (ds : List Document) (i : Interval) → d .number < i .number → OnScreen w ds i → OnScreen w (d ∷ ds) i
 widen w d ds i h o = record {
+  after = o .after;
+  before = o .before;
   document = o .document;
   among = inr (o .among);
   number = o .number;
@@ -58,6 +60,8 @@ extend w d ds k (i ∷ is) f t = (t .0, t .1, widen w d ds i (f .0) (t .2), exte
 -- the first document of a list, cut by those after it
 first-shown : (w : Window) (l : ℕ) (d : Document) (ds : List Document) → OnScreen w (d ∷ ds) (cutInterval w (leastOf w l ds) d)
 first-shown w l d ds = record {
+  after = omega arith;
+  before = omega (arith, own-within w d);
   document = d;
   among = inl refl;
   number = refl;

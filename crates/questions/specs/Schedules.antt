@@ -36,9 +36,11 @@ abbrev pub Follow : ℕ → ℕ → List Interval → Type 0
 Follow n k [] = Unit {0}
 Follow n k (i ∷ is) = (n < i .number) × (k ≤ i .begin) × Follow n k is
 
--- the document of an interval is shown, and at every moment of the interval it is begun and no greater
--- number is
+-- an interval lies in the window, its document is shown, and at every moment of the interval that document
+-- is begun and no greater number is
 pub record OnScreen (w : Window) (shown : List Document) (i : Interval) : Type 0 where
+  pub after : w .begin ≤ i .begin
+  pub before : i .end ≤ w .end
   pub document : Document
   pub among : document ∈ shown
   pub number : document .number ≡ i .number
