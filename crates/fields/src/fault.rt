@@ -25,7 +25,7 @@ pub impl From<TimeFault> for FieldFault as FieldFaultFromTime {
     ghost converts = { λ t f. f ≡ Time t };
 
     fn from(fault: TimeFault) -> FieldFault {
-        FieldFault::Time(fault)
+        Self::Time(fault)
     }
 }
 

@@ -89,7 +89,7 @@ pub impl<'a> Stream for LiveTable<'a> as LiveStream {
     ghost stacked = { λ s. refl };
 
     fn count(&self) -> usize {
-        self.used
+        self.used // every record in use is shown
     }
 
     fn document_at(&self, place: usize) -> Option<Document> {
@@ -101,11 +101,11 @@ pub impl<'a> Stream for LiveTable<'a> as LiveStream {
     }
 
     fn settled_moment(&self) -> u32 {
-        self.moment
+        self.moment // settled as soon as it is entered
     }
 
     fn total_adjustment(&self) -> u32 {
-        0
+        0 // nothing is delayed
     }
 }
 
@@ -113,7 +113,7 @@ pub impl<'a> Stream for LiveTable<'a> as LiveStream {
 // then hold, and that they are still the ones that were lent.
 pub impl<'a> TakingStream for LiveTable<'a> as LiveTaking {
     fn entry_moment(&self) -> u32 {
-        self.moment
+        self.moment // the last that was taken or ticked
     }
 
     fn take(&mut self, document: Document) -> Result<(), Refusal>
