@@ -7,9 +7,9 @@ use lib.Dec.{eqb}
 use lib.ListN.{length, take, drop, getD}
 use Rattle.std.proofs.shelf.Lists.{at-drop-more, at-drop-all, drop-drop, length-drop, take-all, length-take-le, append-assoc, append-nil, length-append}
 use Rattle.std.proofs.shelf.Tests.{eq-eqb, ne-eqb, cond-false, cond-both}
-use Rattle.fields.specs.Parts.{Part}
+use Rattle.fields.specs.Parts.{Part, rest}
 use Rattle.plan.specs.Pieces.{longer, linesOf, isBlank, onto, between, keptIf, kept}
-use Rattle.plan.specs.Cutting.{lineEnd, leftAt, rest, pieceAt, emptyAt}
+use Rattle.plan.specs.Cutting.{lineEnd, leftAt, pieceAt, emptyAt}
 
 -- the scan of a line
 pub line-more : (i : ℕ) (bs : List ℕ) → i < length bs → (getD bs i 0 ≡ 10 → ⊥) → lineEnd (drop i bs) ≡ suc (lineEnd (drop (i + 1) bs))

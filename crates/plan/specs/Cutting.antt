@@ -16,10 +16,6 @@ lineEnd (b ∷ bs) = cond (eqb b 10) 1 (suc (lineEnd bs))
 abbrev pub leftAt : ℕ → List ℕ → List Part
 leftAt place input = between place (linesOf (drop place input))
 
-abbrev pub rest : List Part → List Part
-rest [] = []
-rest (p ∷ ps) = ps
-
 abbrev pub pieceAt : ℕ → ℕ → List ℕ → Part
 pieceAt start end input = record { offset = start; bytes = take (end - start) (drop start input) }
 

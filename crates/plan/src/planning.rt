@@ -42,9 +42,6 @@ use times::refusal::Refusal;
 // The longest input that is read.
 pub const INPUT_LIMIT: usize = 65_536;
 
-// How long an output has to be at most.
-pub const PLAN_LIMIT: usize = 7_300_000;
-
 const TABLE_RECORDS: usize = 256;
 
 const NAMES: &[u8] = b"document,refusal,line,byte,cause\n";
@@ -94,8 +91,8 @@ fn line_length(document: usize, why: Rejection) -> usize
         + 5
 }
 
-// Writes the line of a piece that was refused at a place of the output, if there is room for it there,
-// and answers where the next line goes.
+// Puts the line of a piece that was refused at a place of the output, and answers where the next line
+// goes. Where the output ends before that, what it holds in front is not kept: it is only measured then.
 fn note(out: &mut [u8], at: usize, document: usize, answer: Result<(), Rejection>) -> usize
     requires { ⌜ at ≤ 8000000 ⌝ }
     ensures next { λ r. ⌜ r ≡ at + length (refusalText document (told answer)) ⌝ }
@@ -213,8 +210,15 @@ fn copy_front(text: &[u8], out: &mut [u8]) -> Result<usize, Refusal>
     Ok(length)
 }
 
+// How long an output is that has room for every plan.
+pub fn plan_limit() -> usize
+    ensures { λ r. ⌜ r ≡ 7300000 ⌝ }
+{
+    7_300_000
+}
+
 // The plan of an input, into the front of the output; it answers how long the plan is. An output of
-// `PLAN_LIMIT` bytes is always long enough.
+// `plan_limit` bytes is always long enough.
 pub fn plan(input: &[u8], out: &mut [u8]) -> Result<usize, Refusal>
     ensures text { λ r. ⌜ outcome r (now (out .exit)) ≡ into (planOf (now (input .entry))) (now (out .entry)) ⌝ }
     ensures fits { λ r. ⌜ (7300000 ≤ length (now (out .entry)) → isOk r ≡ true) ⌝ }

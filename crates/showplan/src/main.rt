@@ -5,8 +5,8 @@ ghost use Prim.Native.Nat.{_≤_};
 ghost use lib.ListN.{length};
 ghost use Rattle.std.specs.Vec.{made};
 use plan::planning::INPUT_LIMIT;
-use plan::planning::PLAN_LIMIT;
 use plan::planning::plan;
+use plan::planning::plan_limit;
 use std::io;
 use std::io::Print;
 use std::io::Read;
@@ -45,7 +45,7 @@ fn run<R: Read, P: Print>(
 fn main(rt: LibcRuntime) -> io::Result<()> {
     // one byte more than is read, so that a longer input shows
     let mut buffer = vec![in rt.alloc(); 0u8; INPUT_LIMIT + 1]?;
-    let mut out = vec![in rt.alloc(); 0u8; PLAN_LIMIT]?;
+    let mut out = vec![in rt.alloc(); 0u8; plan_limit()]?;
     let mut stdin = rt.stdin();
     run(&mut stdin, &rt, buffer.as_mut_slice(), out.as_mut_slice())
 }

@@ -5,9 +5,9 @@ ghost use mathlib.Core.List.{[], _∷_};
 ghost use Prim.Native.Nat.{_+_, _<_, _≤_};
 ghost use lib.ListN.{length, drop, getD};
 ghost use Rattle.std.specs.Options.{Cases as BySome};
-ghost use Rattle.fields.specs.Parts.{Part};
+ghost use Rattle.fields.specs.Parts.{rest};
 ghost use Rattle.plan.specs.Pieces.{kept, piecesOf, Pieced};
-ghost use Rattle.plan.specs.Cutting.{lineEnd, leftAt, rest, pieceAt, emptyAt};
+ghost use Rattle.plan.specs.Cutting.{lineEnd, leftAt, pieceAt, emptyAt};
 ghost use Rattle.plan.specs.Left.{left, pieceOf};
 use super::Piece;
 use super::Pieces;
@@ -71,7 +71,8 @@ impl<'a> Pieces<'a> {
 
     // The next piece, until none is left.
     pub fn next(&mut self) -> Option<Piece<'a>>
-        ensures { λ r. ⌜ BySome r (left (now (self .entry)) ≡ []) (λ p. left (now (self .entry)) ≡ pieceOf p ∷ left (now (self .exit))) ⌝ }
+        ensures cases { λ r. ⌜ BySome r (left (now (self .entry)) ≡ []) (λ p. left (now (self .entry)) ≡ pieceOf p ∷ left (now (self .exit))) ⌝ }
+        ensures rest { λ _. ⌜ left (now (self .exit)) ≡ rest (left (now (self .entry))) ⌝ }
     {
         let start = skip_blank(self.input, self.place);
         if start == self.input.len() {

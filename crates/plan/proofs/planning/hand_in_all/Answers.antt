@@ -18,7 +18,7 @@ loop-piece-again g c =
     let p = g .T·Stream .parts (c .loop-piece .stream) in
     let p′ = g .T·Stream .parts (c .hand-in-answer .last .stream) in
     let x = pieceOf (c .in-Some .piece) in
-    let e = c .in-Some .ensures tt in
+    let e = (c .in-Some .ensures tt) .cases in
     let few : length (left (c .loop-piece .pieces)) ≡ length (left (c .next .last .self)) + 1 = omega (arith, ap length e) in
     let a = c .hand-in-answer .ensures in
     let m = c .note-at .ensures in (
@@ -32,7 +32,7 @@ loop-piece-again g c =
 pub returns : need.returns
 returns g c =
     let i = c .loop-piece .inv in
-    let none = c .in-rest .ensures tt in
+    let none = (c .in-rest .ensures tt) .cases in
     let p = g .T·Stream .parts (c .loop-piece .stream) in
     let p₀ = g .T·Stream .parts (c .args .stream .now) in
     let all = c .new-pieces .ensures .all in
