@@ -16,24 +16,26 @@ pub struct Window {
 impl Window {
     /// Everything that can come in: from 0 to the entry limit.
     pub const WHOLE_ENTRY: Window = Window { begin: Moment::ZERO, end: Moment::ENTRY_LIMIT };
+    /// Everything that can be written: from 0 to the last moment.
+    pub const WHOLE: Window = Window { begin: Moment::ZERO, end: Moment::LAST };
 
     pub fn new(begin: Moment, end: Moment) -> Result<Window, Refusal> {
         if begin < end && end <= Moment::LAST { Ok(Window { begin, end }) } else { Err(Refusal::NotAWindow) }
     }
 
-    fn resolved_begin(self, document: &Document) -> Moment {
+    pub fn resolved_begin(self, document: &Document) -> Moment {
         let latest = document.available.max(self.begin);
         document.begin.map_or(latest, |begin| latest.max(begin))
     }
 
     /// The end before any later document cuts it. A dur counts from the resolved begin.
-    fn own_end(self, document: &Document, resolved_begin: Moment) -> Moment {
+    pub fn own_end(self, document: &Document, resolved_begin: Moment) -> Moment {
         let by_dur = document.dur.map(|dur| Moment(resolved_begin.0 + dur.0));
         by_dur.into_iter().chain(document.end).fold(self.end, Moment::min)
     }
 }
 
-/// One document's time on screen; the end is not part of it.
+/// One document's resolved times; the end is not part of its time on screen.
 #[derive(Clone, Copy, Debug, Default, PartialEq, Eq)]
 pub struct Entry {
     pub number: u32,
@@ -42,24 +44,30 @@ pub struct Entry {
     pub content: u32,
 }
 
-/// The entries of a shown list in a window, by rising number.
-pub fn schedule(shown: &[Document], window: Window) -> Vec<Entry> {
+/// Resolved begin and resolved end of each document of a shown list, also where no time is left between
+/// them.
+pub fn resolve(shown: &[Document], window: Window) -> Vec<Entry> {
     // From the last document to the first: the least begin met so far cuts all that came before, also
     // when the document it belongs to is never on screen itself.
     let mut least_begin = None;
     let mut entries: Vec<Entry> = shown
         .iter()
         .rev()
-        .filter_map(|document| {
+        .map(|document| {
             let begin = window.resolved_begin(document);
             let own_end = window.own_end(document, begin);
             let end = least_begin.map_or(own_end, |cut| own_end.min(cut));
             least_begin = Some(least_begin.map_or(begin, |cut| begin.min(cut)));
-            (begin < end).then_some(Entry { number: document.number, begin, end, content: document.content })
+            Entry { number: document.number, begin, end, content: document.content }
         })
         .collect();
     entries.reverse();
     entries
+}
+
+/// The entries of a shown list that have some time on screen in a window, by rising number.
+pub fn schedule(shown: &[Document], window: Window) -> Vec<Entry> {
+    resolve(shown, window).into_iter().filter(|entry| entry.begin < entry.end).collect()
 }
 
 /// The schedule's text: the names line, then one line for each entry.
@@ -123,6 +131,7 @@ mod tests {
         assert_eq!(Window::new(Moment(6_000), Moment(5_000)), Err(Refusal::NotAWindow));
         assert_eq!(Window::new(Moment(0), Moment(360_000_000)), Err(Refusal::NotAWindow));
         assert_eq!(window(0, 355_199_999), Window::WHOLE_ENTRY);
+        assert_eq!(window(0, 359_999_999), Window::WHOLE);
     }
 
     #[test]

@@ -1,8 +1,9 @@
 //! The program itself: from a feed of many texts to the two tables.
 
+use crate::live::LiveTable;
 use crate::refusal::{Record, Refusal};
 use crate::schedule::{self, Entry, Window};
-use crate::stream::LiveTable;
+use crate::stream::{Stream, TakingStream};
 
 pub const MAX_INPUT: usize = 65_536;
 pub const RECORDS: usize = 256;
@@ -39,9 +40,9 @@ impl Plan {
             })
             .collect();
         Plan {
-            entries: schedule::schedule(table.shown(), Window::WHOLE_ENTRY),
+            entries: schedule::schedule(&table.shown(), Window::WHOLE_ENTRY),
             refused,
-            accepted: table.shown().len(),
+            accepted: table.count(),
         }
     }
 

@@ -145,7 +145,7 @@ impl Field<'_> {
 }
 
 /// One to ten digits without a needless zero in front, up to the greatest `u32`.
-fn number(bytes: &[u8]) -> Option<u32> {
+pub fn number(bytes: &[u8]) -> Option<u32> {
     let all_digits = bytes.iter().all(u8::is_ascii_digit);
     let leading_zero = bytes.len() > 1 && bytes[0] == b'0';
     if !all_digits || leading_zero {

@@ -3,9 +3,11 @@
 ghost use mathlib.Core.Path.{_≡_};
 ghost use Rattle.streams.specs.Tables.{recordsAfter};
 use documents::document::Document;
+use streams::live::LiveOver;
 use streams::live::LiveStream;
 use streams::live::LiveTable;
 use streams::live::LiveTaking;
+use streams::making::TableOver;
 use streams::stream::Stream;
 use streams::taking::TakingStream;
 
@@ -14,7 +16,7 @@ use streams::taking::TakingStream;
 pub fn lend_for_one(records: &mut [Document], document: Document, moment: u32)
     ensures { λ _. ⌜ now (records .exit) ≡ recordsAfter 0 (now (records .entry)) 0 document ⌝ }
 {
-    let mut table = LiveTable::new(records);
+    let mut table = LiveTable::over(records);
     let _ = table.take(document);
     let _ = table.tick(moment);
 }

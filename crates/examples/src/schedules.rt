@@ -6,9 +6,11 @@ use questions::schedule::schedule;
 use questions::schedule::text::schedule_text;
 use questions::window::Window;
 use std::test::*;
+use streams::live::LiveOver;
 use streams::live::LiveStream;
 use streams::live::LiveTable;
 use streams::live::LiveTaking;
+use streams::making::TableOver;
 use streams::taking::TakingStream;
 use times::refusal::Refusal;
 
@@ -98,7 +100,7 @@ fn windows() -> Result<(), Fail> {
 #[test]
 fn three_documents_are_listed() -> Result<(), Fail> {
     let mut records = [blank(); 4];
-    let mut table = LiveTable::new(&mut records);
+    let mut table = LiveTable::over(&mut records);
     check(three(&mut table).is_ok())?;
     let Ok(window) = Window::new(0, 20_000) else {
         return Err(Fail::new("no window"));
@@ -121,7 +123,7 @@ fn three_documents_are_listed() -> Result<(), Fail> {
 #[test]
 fn a_document_that_never_shows_still_cuts() -> Result<(), Fail> {
     let mut records = [blank(); 4];
-    let mut table = LiveTable::new(&mut records);
+    let mut table = LiveTable::over(&mut records);
     check(three(&mut table).is_ok())?;
     check(table.take(fourth()).is_ok())?;
     let Ok(window) = Window::new(0, 20_000) else {

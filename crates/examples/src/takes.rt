@@ -3,9 +3,11 @@
 use documents::document::Document;
 use std::test::*;
 use streams::hand_in::hand_in;
+use streams::live::LiveOver;
 use streams::live::LiveStream;
 use streams::live::LiveTable;
 use streams::live::LiveTaking;
+use streams::making::TableOver;
 use streams::stream::Stream;
 use streams::taking::TakingStream;
 use times::refusal::Refusal;
@@ -40,7 +42,7 @@ fn handed(table: &mut LiveTable, text: &[u8]) -> (u8, usize, usize) {
 #[test]
 fn a_table_refuses_in_order() -> Result<(), Fail> {
     let mut records = [document(0, 0, None); 2];
-    let mut table = LiveTable::new(&mut records);
+    let mut table = LiveTable::over(&mut records);
     check_eq(number(table.tick(1_000)), 0)?;
     check_eq(number(table.take(document(3, 999, None))), 8)?;
     check_eq(number(table.take(document(0, 999, None))), 4)?;
@@ -55,7 +57,7 @@ fn a_table_refuses_in_order() -> Result<(), Fail> {
 #[test]
 fn a_full_table_still_ticks() -> Result<(), Fail> {
     let mut records = [document(0, 0, None); 1];
-    let mut table = LiveTable::new(&mut records);
+    let mut table = LiveTable::over(&mut records);
     check_eq(number(table.take(document(9, 6_000, None))), 0)?;
     check_eq(
         number(table.take(document(10, 7_000, Some(355_200_000)))),
@@ -73,7 +75,7 @@ fn a_full_table_still_ticks() -> Result<(), Fail> {
 #[test]
 fn a_table_of_no_records_takes_nothing() -> Result<(), Fail> {
     let mut records: [Document; 0] = [];
-    let mut table = LiveTable::new(&mut records);
+    let mut table = LiveTable::over(&mut records);
     check_eq(number(table.take(document(1, 0, None))), 10)?;
     check(table.document_at(0).is_none())
 }
@@ -81,7 +83,7 @@ fn a_table_of_no_records_takes_nothing() -> Result<(), Fail> {
 #[test]
 fn hand_in_judges_the_text_first() -> Result<(), Fail> {
     let mut records = [document(0, 0, None); 3];
-    let mut table = LiveTable::new(&mut records);
+    let mut table = LiveTable::over(&mut records);
     check_eq(number(table.take(document(6, 20_000, None))), 0)?;
     check_eq(
         handed(

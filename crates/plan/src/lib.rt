@@ -5,5 +5,6 @@
 //
 // A reader must believe, in specs/: `piecesOf` (Pieces), `refusalText`, `planText` and `planOf` (Plans).
 
+pub mod input;
 pub mod pieces;
 pub mod planning;

@@ -26,9 +26,11 @@ use questions::schedule::text::put_schedule;
 use questions::schedule::text::text_length;
 use questions::window::Window;
 use streams::hand_in::hand_in;
+use streams::live::LiveOver;
 use streams::live::LiveStream;
 use streams::live::LiveTable;
 use streams::live::LiveTaking;
+use streams::making::TableOver;
 use streams::stream::Stream;
 use streams::taking::TakingStream;
 use times::clock::ENTRY_LIMIT;
@@ -186,13 +188,13 @@ fn plan_within(input: &[u8], window: Window, out: &mut [u8]) -> Result<usize, Re
     ensures fits { λ r. ⌜ (7300000 ≤ length (now (out .entry)) → isOk r ≡ true) ⌝ }
 {
     let mut records = blank_records();
-    let mut table = LiveTable::new(&mut records);
+    let mut table = LiveTable::over(&mut records);
     let (begin, length) = measure(&mut table, window, input);
     if out.len() < length {
         return Err(Refusal::OutputTooShort);
     }
     let mut records = blank_records();
-    let mut table = LiveTable::new(&mut records);
+    let mut table = LiveTable::over(&mut records);
     write(&mut table, window, input, begin, out);
     Ok(length)
 }

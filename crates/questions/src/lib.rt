@@ -8,5 +8,6 @@
 // and `resolvedEnd` (Resolved), `scheduleOf` and `Timetable` (Schedules: the list, and the laws that it
 // keeps), `intervalText` and `scheduleText` (Texts).
 
+pub mod asking;
 pub mod schedule;
 pub mod window;

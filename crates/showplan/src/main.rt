@@ -3,28 +3,13 @@
 
 ghost use Prim.Native.Nat.{_≤_};
 ghost use lib.ListN.{length};
-ghost use Rattle.std.specs.Vec.{made};
+use plan::input::read_input;
 use plan::planning::INPUT_LIMIT;
 use plan::planning::plan;
 use plan::planning::plan_limit;
 use std::io;
 use std::io::Print;
 use std::io::Read;
-
-// Fills the buffer from its front as far as the input goes, and answers how far.
-fn read_input<R: Read>(source: &mut R, buffer: &mut [u8]) -> io::Result<usize>
-    ensures { λ r. ⌜ made r (λ n. n ≤ length (now (buffer .entry))) ⌝ }
-{
-    let mut n = 0;
-    while n < buffer.len() {
-        let k = source.read(&mut buffer[n..])?;
-        if k == 0 {
-            break;
-        }
-        n += k;
-    }
-    Ok(n)
-}
 
 // Reads the input, and prints its plan. The output is as long as any plan, so nothing is refused.
 fn run<R: Read, P: Print>(

@@ -4,3 +4,4 @@ pub mod Taking
 pub mod Tables
 pub mod Fronts
 pub mod Handing
+pub mod Prepared

@@ -10,6 +10,9 @@
 // come above, `stack` (what nodes make of the parts of a bare stream).
 
 pub mod hand_in;
+pub mod lent;
 pub mod live;
+pub mod making;
+pub mod prepared;
 pub mod stream;
 pub mod taking;

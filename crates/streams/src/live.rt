@@ -12,6 +12,7 @@ ghost use Rattle.streams.specs.Stacks.{Delay};
 ghost use Rattle.streams.specs.Taking.{lastNumber, takeRefusal, afterTake, tickRefusal, afterTick, Prompt};
 ghost use Rattle.streams.specs.Tables.{usable, tableParts, recordsAfter};
 ghost use Rattle.streams.specs.Fronts.{lastAvailable, front-lawful};
+use crate::making::TableOver;
 use crate::stream::Stream;
 use crate::taking::TakingStream;
 use documents::document::Document;
@@ -34,8 +35,23 @@ pub struct LiveTable<'a> {
 }
 
 impl<'a> LiveTable<'a> {
-    // An empty table at entry moment 0. What the records hold is kept until they are used.
-    pub fn new(records: &'a mut [Document]) -> LiveTable<'a>
+    fn last_number(&self) -> u32
+        ensures { λ r. ⌜ r ≡ lastNumber (take (now (self .entry) .used) (now (self .entry) .records .now)) ⌝ }
+    {
+        if self.used == 0 {
+            0
+        } else {
+            self.records[self.used - 1].number
+        }
+    }
+}
+
+// An empty table at entry moment 0. What the records hold is kept until they are used.
+pub impl<'a> TableOver<'a> for LiveTable<'a> as LiveOver {
+    fn over(records: &'a mut [Document]) -> LiveTable<'a>
+        ensures parts { λ r. ⌜ tableParts (r .used) (r .records .now) (r .moment) ≡ tableParts 0 (now (records .entry)) 0 ⌝ }
+        ensures nodes { λ _. ⌜ _≡_ {A = List Delay} [] [] ⌝ }
+        ensures bare { λ r. ⌜ tableParts (r .used) (r .records .now) (r .moment) ≡ tableParts (r .used) (r .records .now) (r .moment) ⌝ }
         ensures used { λ r. ⌜ r .used ≡ 0 ⌝ }
         ensures moment { λ r. ⌜ r .moment ≡ 0 ⌝ }
         ensures records { λ r. ⌜ r .records .now ≡ now (records .entry) ⌝ }
@@ -45,16 +61,6 @@ impl<'a> LiveTable<'a> {
             records,
             used: 0,
             moment: 0,
-        }
-    }
-
-    fn last_number(&self) -> u32
-        ensures { λ r. ⌜ r ≡ lastNumber (take (now (self .entry) .used) (now (self .entry) .records .now)) ⌝ }
-    {
-        if self.used == 0 {
-            0
-        } else {
-            self.records[self.used - 1].number
         }
     }
 }

@@ -49,7 +49,7 @@ const GOOD_TIMES: [&str; 6] =
     ["98:39:59.999", "98:39:59.998", "00:00:00.000", "00:59:59.999", "00:00:00.001", "98:00:00.000"];
 
 /// Wrong for the sequence number; `0` is good for the content.
-const WRONG_NUMBERS: [&str; 27] = [
+pub const WRONG_NUMBERS: [&str; 27] = [
     "",
     "00",
     "01",
@@ -143,7 +143,7 @@ fn either(rng: &mut Prng, wrong: &[&str], good: &[&str]) -> Field {
     rng.pick(choices).as_bytes().to_vec()
 }
 
-fn odd_byte_in(field: &mut Field, rng: &mut Prng) {
+pub fn odd_byte_in(field: &mut Field, rng: &mut Prng) {
     if field.is_empty() {
         field.push(rng.pick(&ODD_BYTES));
     } else {
@@ -245,7 +245,7 @@ fn almost_a_level(draft: &mut Draft, rng: &mut Prng) {
 }
 
 /// Changes a name by the least that makes it another.
-fn almost(name: &mut Field, rng: &mut Prng) {
+pub fn almost(name: &mut Field, rng: &mut Prng) {
     if name.is_empty() {
         return;
     }

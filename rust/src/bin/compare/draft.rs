@@ -75,13 +75,14 @@ fn maybe_time(moment: Option<u32>) -> Field {
 }
 
 /// Writes the documents of one feed; each is good if all before it were.
+#[derive(Clone)]
 pub struct Writer {
-    number: u32,
-    available: u32,
+    pub number: u32,
+    pub available: u32,
     /// The usual step from one available to the next, at most.
-    pace: u32,
+    pub pace: u32,
     /// How many of a hundred documents have a timed nest.
-    timed: usize,
+    pub timed: usize,
 }
 
 impl Writer {
@@ -110,16 +111,21 @@ impl Writer {
         Writer { number: 0, available: 0, pace: 3, timed: 0 }
     }
 
-    /// The next document. Numbers stop at the greatest there is, and time at the entry limit.
-    pub fn next(&mut self, rng: &mut Prng) -> Draft {
+    /// Goes on to the next number and available. Numbers stop at the greatest there is, and time at the
+    /// entry limit.
+    pub fn step(&mut self, rng: &mut Prng) {
         let gap = rng.weighted(&[(85, 1), (10, 2), (4, 10), (1, 1_000_000)]);
         self.number = self.number.saturating_add(gap);
         if !rng.chance(15) {
             self.available = (self.available + rng.within(0..=self.pace)).min(LIMIT);
         }
+    }
+
+    /// The next document.
+    pub fn next(&mut self, rng: &mut Prng) -> Draft {
+        self.step(rng);
         let dur = self.dur(rng);
-        let usual_content = self.number % 1_000 + 5_000;
-        let content = rng.weighted(&[(8, usual_content), (1, 0), (1, u32::MAX)]);
+        let content = self.content(rng);
         let draft = Draft::new(values(self.number, self.available, content, dur));
         if rng.chance(self.timed) { draft.with(self.nest(rng)) } else { draft.with([line("body,,")]) }
     }
@@ -138,7 +144,12 @@ impl Writer {
         draft
     }
 
-    fn dur(&self, rng: &mut Prng) -> Option<u32> {
+    pub fn content(&self, rng: &mut Prng) -> u32 {
+        let usual_content = self.number % 1_000 + 5_000;
+        rng.weighted(&[(8, usual_content), (1, 0), (1, u32::MAX)])
+    }
+
+    pub fn dur(&self, rng: &mut Prng) -> Option<u32> {
         match rng.below(20) {
             0..10 => None,
             10 => Some(0),

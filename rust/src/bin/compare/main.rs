@@ -1,11 +1,12 @@
-//! Holds a program to the independent version of `showplan`, byte by byte, over many made inputs.
+//! Holds a program to the independent version of `showplan` or `replay`, byte by byte, over many made inputs.
 
 mod damage;
 mod draft;
 mod prng;
 mod program;
-mod shapes;
-mod tally;
+mod replay;
+mod showplan;
+mod subject;
 
 use std::num::NonZero;
 use std::path::PathBuf;
@@ -13,19 +14,20 @@ use std::process::ExitCode;
 use std::sync::atomic::{AtomicUsize, Ordering};
 use std::{env, fs, io, thread};
 
-use yumdrast_check::showplan::Plan;
-
 use crate::prng::Prng;
 use crate::program::Difference;
-use crate::tally::Tally;
+use crate::replay::Replaying;
+use crate::showplan::Showplan;
+use crate::subject::{Subject, Tally};
 
-const USAGE: &str = "usage: compare PROGRAM [SEED] [COUNT]";
+const USAGE: &str = "usage: compare showplan|replay PROGRAM [SEED] [COUNT]";
 const DEFAULT_SEED: u64 = 20_260_414;
 const DEFAULT_COUNT: usize = 6_000;
 /// How many differences are shown in full; the others are only counted.
 const SHOWN_DIFFERENCES: usize = 3;
 
 struct Arguments {
+    subject: String,
     program: PathBuf,
     seed: u64,
     count: usize,
@@ -33,24 +35,28 @@ struct Arguments {
 
 impl Arguments {
     fn parse(mut given: impl Iterator<Item = String>) -> Option<Arguments> {
+        let subject = given.next()?;
         let program = PathBuf::from(given.next()?);
         let seed = given.next().map_or(Ok(DEFAULT_SEED), |seed| seed.parse()).ok()?;
         let count = given.next().map_or(Ok(DEFAULT_COUNT), |count| count.parse()).ok()?;
-        given.next().is_none().then_some(Arguments { program, seed, count })
+        given.next().is_none().then_some(Arguments { subject, program, seed, count })
     }
 }
 
 /// What one thread found.
-#[derive(Default)]
-struct Findings {
-    tally: Tally,
+struct Findings<T> {
+    tally: T,
     /// The first few, to be shown.
     shown: Vec<Difference>,
     differences: usize,
 }
 
-impl Findings {
-    fn add(&mut self, other: Findings) {
+impl<T: Tally> Findings<T> {
+    fn new() -> Findings<T> {
+        Findings { tally: T::default(), shown: Vec::new(), differences: 0 }
+    }
+
+    fn add(&mut self, other: Findings<T>) {
         self.tally += other.tally;
         self.shown.extend(other.shown);
         self.differences += other.differences;
@@ -59,17 +65,15 @@ impl Findings {
 
 /// Runs cases until `next` has come to the count. Cases are handed out one by one, since some take much
 /// longer than others.
-fn work(arguments: &Arguments, next: &AtomicUsize) -> io::Result<Findings> {
-    let mut findings = Findings::default();
+fn work<S: Subject>(arguments: &Arguments, next: &AtomicUsize) -> io::Result<Findings<S::Tally>> {
+    let mut findings = Findings::new();
     loop {
         let index = next.fetch_add(1, Ordering::Relaxed);
         if index >= arguments.count {
             return Ok(findings);
         }
-        let input = shapes::input(&mut Prng::of_case(arguments.seed, index));
-        let plan = Plan::of(&input);
-        findings.tally.count(&input, &plan);
-        let wanted = plan.text().into_bytes();
+        let input = S::input(&mut Prng::of_case(arguments.seed, index));
+        let wanted = S::wanted(&input, &mut findings.tally);
         let output = program::run(&arguments.program, &input)?;
         if Difference::is_in(&output, &wanted) {
             findings.differences += 1;
@@ -80,12 +84,12 @@ fn work(arguments: &Arguments, next: &AtomicUsize) -> io::Result<Findings> {
     }
 }
 
-fn work_in_threads(arguments: &Arguments) -> io::Result<Findings> {
+fn work_in_threads<S: Subject>(arguments: &Arguments) -> io::Result<Findings<S::Tally>> {
     let count = thread::available_parallelism().map_or(2, NonZero::get).clamp(2, 4);
     let next = AtomicUsize::new(0);
     thread::scope(|scope| {
-        let workers: Vec<_> = (0..count).map(|_| scope.spawn(|| work(arguments, &next))).collect();
-        let mut all = Findings::default();
+        let workers: Vec<_> = (0..count).map(|_| scope.spawn(|| work::<S>(arguments, &next))).collect();
+        let mut all = Findings::new();
         for worker in workers {
             all.add(worker.join().expect("a worker does not panic")?);
         }
@@ -94,17 +98,18 @@ fn work_in_threads(arguments: &Arguments) -> io::Result<Findings> {
 }
 
 /// Keeps an input as it is, to be run again by hand.
-fn keep(seed: u64, difference: &Difference) -> io::Result<PathBuf> {
-    let path = env::temp_dir().join(format!("compare-{seed}-{}.txt", difference.index));
+fn keep(arguments: &Arguments, difference: &Difference) -> io::Result<PathBuf> {
+    let Arguments { subject, seed, .. } = arguments;
+    let path = env::temp_dir().join(format!("compare-{subject}-{seed}-{}.txt", difference.index));
     fs::write(&path, &difference.input)?;
     Ok(path)
 }
 
-fn report(arguments: &Arguments, mut findings: Findings) -> bool {
+fn report<T: Tally>(arguments: &Arguments, mut findings: Findings<T>) -> bool {
     findings.shown.sort_by_key(|difference| difference.index);
     for difference in findings.shown.iter().take(SHOWN_DIFFERENCES) {
         print!("seed {}, {difference}", arguments.seed);
-        if let Ok(path) = keep(arguments.seed, difference) {
+        if let Ok(path) = keep(arguments, difference) {
             println!("  the whole input is in {}", path.display());
         }
     }
@@ -112,17 +117,30 @@ fn report(arguments: &Arguments, mut findings: Findings) -> bool {
     print!("{}", findings.tally);
     println!("{:>9} differences", findings.differences);
     if !findings.tally.is_complete() {
-        println!("some refusal or time cause was never met");
+        println!("{}", T::MISSING);
     }
     findings.differences == 0 && findings.tally.is_complete()
 }
 
+/// Whether nothing differs and everything was met.
+fn compare<S: Subject>(arguments: &Arguments) -> io::Result<bool> {
+    Ok(report(arguments, work_in_threads::<S>(arguments)?))
+}
+
 fn main() -> ExitCode {
-    let Some(arguments) = Arguments::parse(env::args().skip(1)) else {
+    let usage = || {
         eprintln!("{USAGE}");
-        return ExitCode::from(2);
+        ExitCode::from(2)
     };
-    match work_in_threads(&arguments).map(|findings| report(&arguments, findings)) {
+    let Some(arguments) = Arguments::parse(env::args().skip(1)) else {
+        return usage();
+    };
+    let outcome = match arguments.subject.as_str() {
+        "showplan" => compare::<Showplan>(&arguments),
+        "replay" => compare::<Replaying>(&arguments),
+        _ => return usage(),
+    };
+    match outcome {
         Ok(true) => ExitCode::SUCCESS,
         Ok(false) => ExitCode::FAILURE,
         Err(error) => {

@@ -5,7 +5,7 @@ use Rattle.plan.proofs.planning.plan_within.Needs as need
 
 pub returns-then-out-length : need.returns-then-out-length
 returns-then-out-length c =
-    let t = c .new-table .ensures in
+    let t = c .over-table .ensures in
     let e = table-empty _ _ 256 _ _ (t .used) (t .moment) (t .records) (c .blank-records-records .ensures) (omega arith) in
     let m = c .measure-begin .ensures in
     record {
@@ -15,9 +15,9 @@ returns-then-out-length c =
 
 pub returns : need.returns
 returns c =
-    let t = c .new-table .ensures in
+    let t = c .over-table .ensures in
     let e = table-empty _ _ 256 _ _ (t .used) (t .moment) (t .records) (c .blank-records-records .ensures) (omega arith) in
-    let u = c .new-table-2 .ensures in
+    let u = c .over-table-2 .ensures in
     let f = table-empty _ _ 256 _ _ (u .used) (u .moment) (u .records) (c .blank-records-records-2 .ensures) (omega arith) in
     let m = c .measure-begin .ensures in
     record {

@@ -7,8 +7,10 @@ use yumdrast_check::clock::TimeCause;
 use yumdrast_check::refusal::Refusal;
 use yumdrast_check::showplan::{Plan, is_over_long};
 
+use crate::subject::Tally;
+
 #[derive(Default)]
-pub struct Tally {
+pub struct PieceTally {
     inputs: usize,
     over_long: usize,
     accepted: usize,
@@ -19,7 +21,7 @@ pub struct Tally {
     causes: [usize; TimeCause::ALL.len() + 1],
 }
 
-impl Tally {
+impl PieceTally {
     pub fn count(&mut self, input: &[u8], plan: &Plan) {
         self.inputs += 1;
         self.accepted += plan.accepted;
@@ -36,15 +38,19 @@ impl Tally {
             }
         }
     }
+}
+
+impl Tally for PieceTally {
+    const MISSING: &str = "some refusal or time cause was never met";
 
     /// Whether every refusal and every time cause came at least once.
-    pub fn is_complete(&self) -> bool {
+    fn is_complete(&self) -> bool {
         self.refusals[1..].iter().chain(&self.causes[1..]).all(|&count| count > 0)
     }
 }
 
-impl AddAssign for Tally {
-    fn add_assign(&mut self, other: Tally) {
+impl AddAssign for PieceTally {
+    fn add_assign(&mut self, other: PieceTally) {
         self.inputs += other.inputs;
         self.over_long += other.over_long;
         self.accepted += other.accepted;
@@ -60,7 +66,7 @@ fn add_each(sums: &mut [usize], others: &[usize]) {
     }
 }
 
-impl fmt::Display for Tally {
+impl fmt::Display for PieceTally {
     fn fmt(&self, f: &mut fmt::Formatter<'_>) -> fmt::Result {
         writeln!(f, "{:>9} inputs", self.inputs)?;
         writeln!(f, "{:>9} inputs over-long", self.over_long)?;

@@ -1,0 +1,3 @@
+pub mod Alterable
+pub mod Commutes
+pub mod Chosens

@@ -1,0 +1,3 @@
+pub mod Approvals
+pub mod Delays
+pub mod Choosing
