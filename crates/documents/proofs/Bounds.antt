@@ -1,11 +1,10 @@
 -- The begin and the end of an accepted document are bounds that are attained.
-use Rattle.std.proofs.Common.{◌≡◌, ℕ, ◌+◌, ◌-◌, ◌<◌, ◌≤◌, min, max, true, false, cond, leb, List, [], ◌∷◌, is_some, Some, None, Option, sym, refl, ap, ◌∙◌, subst, inl, inr, ⊎_elim, arith}
+use Rattle.std.proofs.Common.{◌≡◌, ℕ, ◌+◌, ◌-◌, ◌<◌, ◌≤◌, max, true, List, [], ◌∷◌, is_some, Some, None, Option, sym, refl, ap, ◌∙◌, subst, inl, inr, ⊎_elim, arith}
 use Rattle.std.proofs.lemmas.Bool.{false≢true, cases_lt}
 use Rattle.fields.specs.Faults.{Judged, good, bad}
 use Rattle.documents.specs.Elements.{up_to_limit, cut_to, cut_in, end_of, least_of, most_of}
 use Rattle.documents.specs.Reading.{nearest_in, least_begin, greatest_end}
-use Rattle.documents.specs.Laws.{Row, Reads, AllRead, Carries, ◌∈◌, IsLeast, EndsBy, IsGreatest, Bounding}
-use Rattle.documents.specs.declared.document.Document.{Document}
+use Rattle.documents.specs.Laws.{Row, AllRead, ◌∈◌, IsLeast, EndsBy, IsGreatest, Bounding}
 use Rattle.documents.specs.declared.element.Computed.{Computed}
 use Rattle.documents.specs.declared.element.Element.{Element}
 

@@ -2,11 +2,11 @@
 use Rattle.std.proofs.Common.{◌≡◌, ℕ, zero, suc, ◌+◌, ◌-◌, ◌≤◌, Bool, true, false, cond, eqb, List, [], ◌∷◌, length, get_or, set, replicate, Some, None, Option, sym, refl, ap, ◌∙◌, subst, ⊎_elim, arith}
 use Rattle.std.proofs.lemmas.List.{get_or-set_same, get_or-set_other, length-set}
 use Rattle.std.proofs.lemmas.Bool.{eq-eqb, ne_eqb, cases_eq}
-use Rattle.fields.specs.Faults.{Judged, good, bad, Told, fine, refused, at, then}
+use Rattle.fields.specs.Faults.{good, bad, Told, fine, refused, at, then}
 use Rattle.fields.specs.Parts.{Part, parts, nth_part}
 use Rattle.fields.specs.Levels.{level_of, depth_of, level_fits_of, level_in, level_field_of}
 use Rattle.documents.specs.Elements.{root, least_of, most_of, time_at_of, computed_at_of}
-use Rattle.documents.specs.Reading.{element_times_of, element_fields, element_parts, element, nearest_in, depth_before, least_begin, greatest_end, elements_after, elements, document_of, document_in}
+use Rattle.documents.specs.Reading.{element_times_of, element, nearest_in, depth_before, least_begin, greatest_end, elements_after, elements, document_of, document_in}
 use Rattle.documents.specs.Outlines as outlines
 use Rattle.documents.specs.Outlines.{start, grown, element_after, outlined, outline_of, read_lines_of}
 use Rattle.documents.specs.declared.document.Document.{Document}

@@ -1,9 +1,8 @@
 -- Which texts are accepted: exactly those that carry a document.
 use Rattle.std.proofs.Common.{◌≡◌, ℕ, ◌+◌, ◌-◌, ◌<◌, ◌≤◌, Bool, true, false, cond, ◌&&◌, eqb, leb, List, [], ◌∷◌, ◌++◌, length, get_or, take, Some, None, Option, sym, refl, ap, ◌∙◌, subst, ap₂, arith}
-use Rattle.std.specs.List.{flat_map}
 use Rattle.std.specs.Str.{bytes_eq}
 use Rattle.std.proofs.lemmas.Slice.Eq.{bytes_eq-Decides}
-use Rattle.std.proofs.lemmas.List.{append_assoc, length-append, length_push, take_all, take_at, take_more, get_or_at}
+use Rattle.std.proofs.lemmas.List.{append_assoc, length_push, take_all, take_at, take_more, get_or_at}
 use Rattle.std.proofs.lemmas.Bool.{false≢true, eqb-true, eqb-false, eq-eqb, ne_eqb, le-leb, leb-true, and_parts, and_from, cond-true, cond-false}
 use Rattle.fields.specs.Faults.{Judged, good, bad, Told, fine, refused, at, then, time_field_of, optional_time_of}
 use Rattle.fields.specs.Parts.{Part, longer, parts, nth_part, first, rest, bytes_of, join_by, Lacks, Clear}
@@ -11,8 +10,8 @@ use Rattle.fields.specs.Numbers.{number_field_of}
 use Rattle.fields.specs.Levels.{level_field_of}
 use Rattle.fields.proofs.Law.{cut_law}
 use Rattle.documents.specs.Elements.{begin_of, end_of, time_at_of, computed_at_of}
-use Rattle.documents.specs.Reading.{value_names, element_names, names, number_at, moment_at_of, value_fields_of, value_parts, values, element_times_of, element_fields, element, nearest_in, depth_before, least_begin, greatest_end, elements_after, elements, document_of, document_in, lines_of, read_document_of}
-use Rattle.documents.specs.Laws.{line_of, IsLine, text_of, Row, fields_in, row_lines, Reads, AllRead, Carries, Accepting}
+use Rattle.documents.specs.Reading.{value_names, element_names, names, number_at, moment_at_of, value_parts, values, element_fields, element, nearest_in, depth_before, elements_after, elements, document_in, lines_of, read_document_of}
+use Rattle.documents.specs.Laws.{line_of, text_of, Row, fields_in, row_lines, Reads, AllRead, Carries, Accepting}
 use Rattle.documents.specs.declared.document.Document.{Document}
 use Rattle.documents.specs.declared.element.Computed.{Computed}
 use Rattle.documents.specs.declared.element.Element.{Element}

@@ -1,7 +1,7 @@
 -- Elements: written times and computed times.
 use Rattle.std.specs.Prelude.{ℕ, ◌+◌, min, max, cond, Some, None, Option, nat_le}
 use Rattle.times.specs.Clock.{entry_limit}
-use Rattle.fields.specs.Faults.{Judged, good, bad, Told, fine, refused, at, then, optional_time_of}
+use Rattle.fields.specs.Faults.{Judged, good, bad, Told, fine, at, then, optional_time_of}
 use Rattle.fields.specs.Parts.{Part}
 use Rattle.documents.specs.declared.element.Computed.{Computed}
 

@@ -6,7 +6,6 @@ use Rattle.fields.specs.Parts.{Part, first, rest}
 use Rattle.documents.specs.Elements.{root, least_of, most_of}
 use Rattle.documents.specs.Reading.{element, names, values, value_names, element_names}
 use Rattle.documents.specs.declared.document.Document.{Document}
-use Rattle.documents.specs.declared.element.Computed.{Computed}
 use Rattle.documents.specs.declared.element.Element.{Element}
 use Rattle.documents.specs.declared.element.Outline.{Outline}
 use Rattle.documents.specs.declared.text.Values.{Values}

@@ -7,6 +7,8 @@
 // `greatest_end`, and `read_document_of`, which says for every list of bytes which document or which refusal
 // comes. Above it stand laws in the subject's words (Laws): which texts are accepted, with which values.
 
+#![tactic(auto)]
+
 pub mod document;
 pub mod element;
 pub mod text;

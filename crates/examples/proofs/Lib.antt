@@ -1,1 +1,1 @@
-mod Hidden
+mod NeverShown

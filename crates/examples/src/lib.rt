@@ -4,6 +4,8 @@
 // shows what a host may know of the memory that it lent once the live table is gone. The other modules hold
 // tests. All expected values are worked out by hand from docs/.
 
+#![tactic(auto)]
+
 pub mod lending;
 #[cfg(test)]
 mod plans;

@@ -130,7 +130,7 @@ fn a_document_that_never_shows_still_cuts(rt: HostRuntime) -> Result<(), Fail> {
     assert_eq!(rt; count(schedule_text(&table, window, &mut out)), 87);
     assert!(rt;
         &out[0..87]
-            == b"number,begin,end,content\n1,00:00:00.000,00:00:05.000,11\n2,00:00:05.000,00:00:08.000,12\n"
+            == b"number,begin,end,content\n1,00:00:00.000,00:00:05.000,11\n2,00:00:05.000,00:00:08.000,12\n".as_slice()
     );
     assert_eq!(rt; count(schedule_text(&table, window, &mut out[0..86])), 1017);
     Ok(())

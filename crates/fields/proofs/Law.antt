@@ -1,6 +1,6 @@
-use Rattle.std.proofs.Common.{◌≡◌, ℕ, suc, ◌+◌, Bool, true, false, cond, eqb, ◌⊎◌, List, [], ◌∷◌, ◌++◌, length, sym, refl, ap, ◌∙◌, subst, inl, inr, ⊎_elim, arith}
+use Rattle.std.proofs.Common.{◌≡◌, ℕ, ◌+◌, eqb, List, [], ◌∷◌, sym, refl, ap, ◌∙◌, subst, ⊎_elim, arith}
 use Rattle.std.proofs.lemmas.Bool.{eqb-true, eqb-false, cases_Bool, cond-true, cond-false}
-use Rattle.fields.specs.Parts.{Part, longer, parts, bytes_of, join_by, Lacks, Placed, Clear, Cut}
+use Rattle.fields.specs.Parts.{Part, longer, parts, bytes_of, join_by, Placed, Clear, Cut}
 
 -- what the law says of one list of parts
 record Cuts (sep k : ℕ) (bs : List ℕ) (ps : List Part) : Type 0 where

@@ -4,7 +4,7 @@ use Rattle.times.specs.declared.refusal.Refusal.{Refusal}
 use Rattle.times.specs.declared.refusal.Refusal.TheVariants.{NotANumber, NotATime, LevelOutOfPlace, PastEntryLimit}
 use Rattle.times.specs.declared.clock.TimeFault.{TimeFault}
 use Rattle.times.specs.Refusals.{number_of}
-use Rattle.times.specs.Clock.{Reading, moment, cause, read_time_of, cause_of}
+use Rattle.times.specs.Clock.{moment, cause, read_time_of, cause_of}
 use Rattle.fields.specs.declared.fault.FieldFault.{FieldFault}
 use Rattle.fields.specs.declared.fault.FieldFault.TheVariants.{Number, Time, Level, Limit}
 use Rattle.fields.specs.declared.fault.PlacedFault.{PlacedFault}

@@ -1,4 +1,4 @@
-use Rattle.std.specs.Prelude.{◌≡◌, ℕ, ◌+◌, Bool, true, false, cond, List, [], ◌∷◌, length, drop, Some, None, Option, nat_le}
+use Rattle.std.specs.Prelude.{◌+◌, cond, List, [], length, drop, Some, None, Option, nat_le}
 use Rattle.fields.specs.Parts.{Part, parts}
 use Rattle.fields.specs.declared.reader.Field.{Field}
 use Rattle.fields.specs.declared.reader.Reader.{Reader}

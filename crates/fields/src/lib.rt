@@ -8,6 +8,8 @@
 // `number_field_of`, `level_of` and `level_fits_of`, `time_field_of` and `optional_time_of`, and `told`, in which each
 // refusal has its fixed number, line, byte and cause.
 
+#![tactic(auto)]
+
 pub mod fault;
 pub mod level;
 pub mod number;

@@ -1,9 +1,8 @@
 -- What a node may do with a document that the stream below shows.
-use Rattle.std.proofs.Common.{◌≡◌, ℕ, ◌+◌, ◌-◌, ◌≤◌, min, true, List, map, Some, None, sym, arith}
+use Rattle.std.proofs.Common.{◌≡◌, ℕ, ◌+◌, ◌-◌, ◌≤◌, min, true, Some, sym, arith}
 use Rattle.std.specs.List.{slice_get}
 use Rattle.documents.specs.declared.document.Document.{Document}
 use Rattle.streams.specs.Streams.{Parts, Lawful, timely}
-use Rattle.streams.specs.Stacks.{Delay, adjustment}
 use Rattle.nodes.specs.Delays.{timely_nth, timely_more}
 
 pub alterable : (p : Parts) (l : Lawful p) (a d i : ℕ) (x : Document) → d ≡ min a (4800000 - p.total) → Some x ≡ slice_get p.shown i → (d ≤ 4800000) × (timely 359999999 x ≡ true)

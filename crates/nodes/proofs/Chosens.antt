@@ -1,14 +1,14 @@
 -- A chosen node is a holder, a retimer or nothing.
-use Rattle.std.proofs.Common.{◌≡◌, ℕ, List, ◌∷◌, map, length, Some, None, Option, sym, refl, ap, ◌∙◌}
+use Rattle.std.proofs.Common.{◌≡◌, ℕ, length, Some, None, sym, refl, ap, ◌∙◌}
 use Rattle.std.specs.List.{slice_get}
 use Rattle.std.proofs.lemmas.List.{length-map}
 use Rattle.documents.specs.declared.document.Document.{Document}
 use Rattle.streams.specs.Streams.{Parts}
-use Rattle.streams.specs.Stacks.{Delay, holding, retiming, adjustment, held, retimed}
+use Rattle.streams.specs.Stacks.{holding, retiming, adjustment, held, retimed}
 use Rattle.streams.specs.Taking.{entry_moment_of, take_refusal, after_take, tick_refusal, after_tick, Prompt}
 use Rattle.nodes.specs.declared.delay.chosen.Choice.{Choice}
 use Rattle.nodes.specs.declared.delay.chosen.Choice.TheVariants.{Nothing, Holder, Retimer}
-use Rattle.nodes.specs.Choosing.{chosen_alter, chosen_parts, chosen_nodes}
+use Rattle.nodes.specs.Choosing.{chosen_alter, chosen_parts}
 use Rattle.nodes.specs.Delays.{altered_at, altered_none}
 use Rattle.nodes.proofs.Commutes.{entry-delayed, refusal-delayed, after-delayed, prompt-delayed, tick-refusal-delayed, tick-delayed}
 

@@ -1,8 +1,8 @@
 -- A call sent to a node is the call sent to the stream below.
-use Rattle.std.proofs.Common.{◌≡◌, ℕ, ◌+◌, ◌-◌, ◌≤◌, max, Bool, true, false, cond, eqb, ltb, leb, List, [], ◌∷◌, ◌++◌, map, Some, None, Option, sym, refl, ap, ◌∙◌, arith}
+use Rattle.std.proofs.Common.{◌≡◌, ℕ, ◌+◌, ◌-◌, Bool, true, false, cond, eqb, ltb, leb, List, [], ◌∷◌, map, Some, None, Option, sym, refl, ap, ◌∙◌, arith}
 use Rattle.std.proofs.lemmas.List.{map_push}
 use Rattle.documents.specs.declared.document.Document.{Document}
-use Rattle.streams.specs.Streams.{Parts, Entry, timely, later_of, due}
+use Rattle.streams.specs.Streams.{Parts, Entry, timely, later_of}
 use Rattle.streams.specs.Stacks.{Delay, holding, retiming, altered, adjustment, later, delayed_entry, delayed}
 use Rattle.streams.specs.Taking.{moment_in, entry_moment_of, last_from, take_refusal_by, taken, after_take_by, tick_refusal_by, ticked, after_tick_by, PromptBy, take_refusal_at, after_take_at, tick_refusal_at, after_tick_at, PromptAt, take_refusal, after_take, tick_refusal, after_tick, Prompt}
 

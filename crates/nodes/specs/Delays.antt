@@ -1,13 +1,13 @@
 -- What a node makes of lawful parts is lawful: facts that the nodes' ghost members cite.
-use Rattle.std.specs.Prelude.{◌≡◌, ℕ, zero, suc, ◌+◌, ◌-◌, ◌<◌, ◌≤◌, min, max, Bool, true, false, cond, ◌&&◌, List, [], ◌∷◌, map, length, Some, None, Option, nat_le, refl}
-use Rattle.std.proofs.Common.{sym, ap, ◌∙◌, arith}
+use Rattle.std.specs.Prelude.{◌≡◌, ℕ, zero, suc, ◌+◌, ◌≤◌, true, List, [], ◌∷◌, map, Some, None, Option, nat_le, refl}
+use Rattle.std.proofs.Common.{sym, ap, arith}
 use Rattle.std.specs.List.{slice_get}
 use Rattle.std.proofs.lemmas.Bool.{and_parts, and_from, leb-true, le-leb}
 use Rattle.std.proofs.lemmas.List.{length-map}
 use Rattle.documents.specs.declared.document.Document.{Document}
 use Rattle.streams.specs.Streams.{Parts, Entry, Lawful, Faithful, up_to, timely, orderly, later_of}
 use Rattle.streams.specs.Stacks.{Delay, holding, retiming, adjustment, later, held, retimed, delayed, delayed_entry}
-use Rattle.streams.specs.Fronts.{Orderly, orderly_facts, orderly_from}
+use Rattle.streams.specs.Fronts.{orderly_facts, orderly_from}
 
 pub up_to_more : (l l' : ℕ) (o : Option ℕ) → l ≤ l' → up_to l o ≡ true → up_to l' o ≡ true
 up_to_more l l' (Some t) m h = le-leb t l' (omega (arith, leb-true t l h))

@@ -6,5 +6,7 @@
 // A reader must believe, in specs/: `approval_of` (which adjustments are approved), and in `streams` the
 // definitions `adjustment`, `held`, `retimed`, `delayed` and `stack` (what a node makes of what is below).
 
+#![tactic(auto)]
+
 pub mod delay;
 pub mod making;

@@ -1,8 +1,8 @@
-use Rattle.std.proofs.Common.{◌≡◌, ℕ, zero, suc, ◌+◌, ◌-◌, ◌<◌, ◌≤◌, Bool, true, false, cond, eqb, List, [], ◌∷◌, ◌++◌, length, take, drop, sym, refl, ap, ◌∙◌, ap₂, arith, length-append}
-use Rattle.std.proofs.lemmas.List.{drop-drop, take_at, drop_at, append_assoc}
+use Rattle.std.proofs.Common.{◌≡◌, ℕ, ◌+◌, ◌<◌, eqb, List, [], ◌∷◌, ◌++◌, length, take, drop, sym, refl, ap, ◌∙◌, ap₂, arith, length-append}
+use Rattle.std.proofs.lemmas.List.{drop-drop, take_at, drop_at}
 use Rattle.std.proofs.lemmas.Bool.{cond_both}
 use Rattle.fields.specs.Parts.{Part}
-use Rattle.plan.specs.Pieces.{longer, lines_of, is_blank, onto, between, kept_if, kept, pieces_of, PartOf, EachOf, Pieced}
+use Rattle.plan.specs.Pieces.{longer, lines_of, is_blank, onto, between, kept_if, kept, PartOf, EachOf, Pieced}
 use Rattle.plan.proofs.Cuts.{take-plus}
 
 flat : List (List ℕ) → List ℕ

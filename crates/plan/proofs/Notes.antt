@@ -1,11 +1,11 @@
 -- One refused piece more.
-use Rattle.std.proofs.Common.{◌≡◌, ℕ, ◌+◌, ◌-◌, ◌*◌, ◌<◌, ◌≤◌, List, [], ◌∷◌, ◌++◌, length, take, drop, decimal, sym, refl, ap, ◌∙◌, subst, ap₂, arith}
-use Rattle.std.proofs.lemmas.List.{append_assoc, append-nil, length-append, take-append-drop, drop-drop, take_at}
-use Rattle.times.specs.Put.{Puts, put_before, room}
+use Rattle.std.proofs.Common.{◌≡◌, ℕ, ◌+◌, ◌-◌, ◌≤◌, List, [], ◌∷◌, ◌++◌, length, take, drop, decimal, sym, refl, ap, ◌∙◌, subst, ap₂, arith}
+use Rattle.std.proofs.lemmas.List.{append_assoc, append-nil, length-append, take-append-drop, drop-drop}
+use Rattle.times.specs.Put.{Puts}
 use Rattle.times.proofs.Puts.{put_then, put_middle, put_back}
 use Rattle.fields.specs.Parts.{Part}
 use Rattle.times.specs.Refusals.{number_of}
-use Rattle.fields.specs.Faults.{Told, told, cause_number_of}
+use Rattle.fields.specs.Faults.{Told, cause_number_of}
 use Rattle.fields.specs.declared.fault.Rejection.{Rejection}
 use Rattle.streams.specs.Streams.{Parts}
 use Rattle.streams.specs.Handing.{hand_in_told, hand_in_after}

@@ -1,12 +1,11 @@
 -- The two tables of a plan, one after the other.
-use Rattle.std.proofs.Common.{◌≡◌, ℕ, ◌+◌, ◌-◌, ◌<◌, ◌≤◌, cond, leb, List, [], ◌∷◌, ◌++◌, length, take, drop, Some, Ok, codes, sym, refl, ap, ◌∙◌, ap₂, arith}
+use Rattle.std.proofs.Common.{◌≡◌, ℕ, ◌+◌, ◌<◌, ◌≤◌, leb, List, [], ◌∷◌, ◌++◌, length, take, drop, Some, Ok, codes, sym, ap, ◌∙◌, ap₂, arith}
 use Rattle.std.proofs.lemmas.Bool.{le-leb, lt-leb, cond-true, cond-false}
 use Rattle.std.proofs.lemmas.List.{append_assoc, length-append, length-take-le, length-drop, drop_at}
 use Rattle.std.specs.Fmt.{digits}
-use Rattle.times.specs.Refusals.{Outcome, wrote, refused, into}
+use Rattle.times.specs.Refusals.{wrote, refused, into}
 use Rattle.times.specs.Put.{Puts}
 use Rattle.times.proofs.Puts.{put_then, put_front}
-use Rattle.fields.specs.Parts.{Part}
 use Rattle.documents.specs.declared.document.Document.{Document}
 use Rattle.streams.specs.Streams.{Parts}
 use Rattle.streams.specs.Tables.{table_parts}

@@ -1,5 +1,5 @@
 -- The line of a refused piece, from the record that hand-in answered.
-use Rattle.std.specs.Prelude.{ℕ, ◌+◌, List, [], ◌∷◌, ◌++◌, length, decimal}
+use Rattle.std.specs.Prelude.{ℕ, ◌+◌, List, length, decimal}
 use Rattle.times.specs.Refusals.{number_of}
 use Rattle.fields.specs.Faults.{refused, cause_number_of}
 use Rattle.fields.specs.declared.fault.Rejection.{Rejection}

@@ -1,5 +1,5 @@
 -- The pieces of an input between its blank lines.
-use Rattle.std.specs.Prelude.{◌≡◌, ℕ, ◌+◌, ◌<◌, Bool, true, false, cond, List, [], ◌∷◌, ◌++◌, length, take, drop, ◌==◌}
+use Rattle.std.specs.Prelude.{◌≡◌, ℕ, ◌+◌, ◌<◌, Bool, false, cond, List, [], ◌∷◌, ◌++◌, length, take, drop, ◌==◌}
 use Rattle.fields.specs.Parts.{Part}
 
 -- a byte in front of the first line

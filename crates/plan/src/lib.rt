@@ -5,6 +5,8 @@
 //
 // A reader must believe, in specs/: `pieces_of` (Pieces), `refusal_text`, `plan_text` and `plan_of` (Plans).
 
+#![tactic(auto)]
+
 pub mod input;
 pub mod pieces;
 pub mod planning;

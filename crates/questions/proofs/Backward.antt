@@ -1,5 +1,5 @@
 -- A walk from the last document to the first lists what the definition lists.
-use Rattle.std.proofs.Common.{◌≡◌, ℕ, zero, suc, ◌+◌, ◌<◌, ◌≤◌, min, max, Bool, true, false, cond, ltb, leb, List, [], ◌∷◌, ◌++◌, length, get_or, take, drop, Some, None, Option, sym, refl, ap, ◌∙◌, ap₂, arith}
+use Rattle.std.proofs.Common.{◌≡◌, ℕ, zero, suc, ◌+◌, ◌<◌, ◌≤◌, min, Bool, true, false, cond, ltb, List, [], ◌∷◌, ◌++◌, length, get_or, take, Some, None, Option, sym, refl, ap, ◌∙◌, ap₂, arith}
 use Rattle.std.specs.List.{slice_get}
 use Rattle.std.proofs.lemmas.List.{take_more, take_all, append-nil, append_assoc}
 use Rattle.std.proofs.lemmas.Option.{slice_get-get_or}
@@ -10,7 +10,7 @@ use Rattle.streams.specs.Fronts.{orderly_facts}
 use Rattle.questions.specs.declared.window.Window.{Window}
 use Rattle.questions.specs.declared.schedule.Interval.{Interval}
 use Rattle.questions.specs.Resolved.{resolved_begin_of, own_end_of, resolved_end_of, earlier_of, plus}
-use Rattle.questions.specs.Schedules.{interval_of, listed, schedule_of_of}
+use Rattle.questions.specs.Schedules.{listed, schedule_of_of}
 use Rattle.questions.specs.Walks.{least_of, cut_interval, interval_before_of, intervals_before}
 
 least_push : (w : Window) (l : ℕ) (ds : List Document) (d : Document) → least_of w l (ds ++ d ∷ []) ≡ least_of w (min (resolved_begin_of w d) l) ds

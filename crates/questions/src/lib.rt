@@ -8,6 +8,8 @@
 // and `resolved_end_of` (Resolved), `schedule_of_of` and `Timetable` (Schedules: the list, and the laws that it
 // keeps), `interval_text` and `schedule_text_of` (Texts).
 
+#![tactic(auto)]
+
 pub mod asking;
 pub mod schedule;
 pub mod window;

@@ -3,6 +3,8 @@
 // `script` reads the lines, `running` builds the stack and sends the calls, `output` writes the replies.
 // Every call goes through `stacks::sending::send`, to the stack and to a second stream beside it.
 
+#![tactic(auto)]
+
 mod output;
 mod running;
 mod script;

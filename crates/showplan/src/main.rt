@@ -1,6 +1,8 @@
 // `showplan`: reads live documents from standard input, and prints when each one is on screen and which
 // pieces were refused. All that it prints is computed by `plan::planning::plan`.
 
+#![tactic(auto)]
+
 ghost use Rattle.std.specs.Prelude.{◌≤◌, length};
 
 use plan::input::read_input;

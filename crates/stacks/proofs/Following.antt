@@ -1,5 +1,5 @@
 -- A list sent to a stack is the list sent to the bare stream; and a loop that sends it.
-use Rattle.std.proofs.Common.{◌≡◌, ℕ, zero, suc, ◌+◌, ◌<◌, ◌≤◌, Bool, true, false, cond, eqb, List, [], ◌∷◌, ◌++◌, map, length, get_or, take, drop, set, Some, None, Option, sym, refl, ap, ◌∙◌, arith}
+use Rattle.std.proofs.Common.{◌≡◌, ℕ, zero, suc, ◌+◌, ◌<◌, ◌≤◌, false, eqb, List, [], ◌∷◌, ◌++◌, map, length, get_or, take, drop, set, Some, None, Option, sym, refl, ap, ◌∙◌, arith}
 use Rattle.std.specs.List.{slice_get}
 use Rattle.std.proofs.lemmas.Bool.{true≢false, cond_both}
 use Rattle.std.proofs.lemmas.List.{at_drop_more, at_drop_all, drop_more, drop_all, take_more_set, map_push, append_assoc, append-nil}
@@ -8,10 +8,9 @@ use Rattle.documents.specs.declared.document.Document.{Document}
 use Rattle.documents.specs.Reading.{read_document_of}
 use Rattle.streams.specs.Streams.{Parts, Entry}
 use Rattle.streams.specs.Stacks.{Delay, altered, adjustment, delayed_entry, delayed, stack}
-use Rattle.streams.specs.Taking.{take_refusal_by, taken, tick_refusal_by, ticked, after_take_at, after_tick_at, take_refusal, after_take}
-use Rattle.streams.specs.Handing.{take_told, hand_in_told, after_read}
+use Rattle.streams.specs.Taking.{take_refusal_by, taken, tick_refusal_by, ticked, after_take_at, after_tick_at, take_refusal}
+use Rattle.streams.specs.Handing.{take_told, after_read}
 use Rattle.nodes.proofs.Commutes.{refusal-delayed, after-delayed, tick-refusal-delayed, tick-delayed}
-use Rattle.questions.specs.Asking.{Answer}
 use Rattle.stacks.specs.declared.calls.Call.{Call}
 use Rattle.stacks.specs.declared.calls.Call.TheVariants.{HandIn, Take, Tick, Active, Interval}
 use Rattle.stacks.specs.declared.calls.Reply.{Reply}

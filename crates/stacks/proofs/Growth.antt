@@ -1,8 +1,7 @@
 -- What was settled stays.
-use Rattle.std.proofs.Common.{◌≡◌, ℕ, zero, suc, ◌+◌, ◌-◌, ◌<◌, ◌≤◌, min, Bool, true, false, cond, ◌&&◌, eqb, ltb, leb, List, [], ◌∷◌, ◌++◌, Some, None, Option, sym, refl, ap, ◌∙◌, ap₂, arith}
+use Rattle.std.proofs.Common.{◌≡◌, ℕ, zero, suc, ◌<◌, ◌≤◌, min, Bool, true, false, cond, ◌&&◌, eqb, ltb, leb, List, [], ◌∷◌, ◌++◌, Some, None, Option, sym, refl, ap, ◌∙◌, ap₂, arith}
 use mathlib.Core.Path.{fun_ext}
 use Rattle.std.specs.Option.{option_map}
-use Rattle.std.specs.List.{slice_get}
 use Rattle.std.proofs.lemmas.Bool.{false≢true, cond_both, ltb-true, leb-true, eqb-true, lt-ltb, le-leb, lt-leb}
 use Rattle.std.proofs.lemmas.Bool.Decides.{nat_tests}
 use Rattle.times.specs.Clock.{last_moment}
@@ -11,14 +10,14 @@ use Rattle.fields.specs.Faults.{Told, fine}
 use Rattle.documents.specs.declared.document.Document.{Document}
 use Rattle.documents.specs.Reading.{read_document_of}
 use Rattle.streams.specs.Streams.{Parts, Entry, due}
-use Rattle.streams.specs.Taking.{take_refusal_by, taken, after_take_by, tick_refusal_by, ticked, after_tick_by, PromptBy, after_take_at, after_tick_at, PromptAt, take_refusal, tick_refusal}
-use Rattle.streams.specs.Handing.{take_told, after_read, prompt_read}
+use Rattle.streams.specs.Taking.{take_refusal_by, taken, tick_refusal_by, ticked, after_take_at, after_tick_at, PromptAt, take_refusal, tick_refusal}
+use Rattle.streams.specs.Handing.{after_read, prompt_read}
 use Rattle.questions.specs.declared.window.Window.{Window}
 use Rattle.questions.specs.Resolved.{resolved_begin_of, own_end_of, resolved_end_of}
-use Rattle.questions.specs.Asking.{Answer, refused, active, interval, is_active, found, naming, active_of, interval_in_of, interval_of}
+use Rattle.questions.specs.Asking.{refused, active, interval, is_active, found, naming, interval_in_of}
 use Rattle.stacks.specs.declared.calls.Call.{Call}
 use Rattle.stacks.specs.declared.calls.Call.TheVariants.{HandIn, Take, Tick, Active, Interval}
-use Rattle.stacks.specs.Calls.{marked, answered, handed_answer, asked_of, taking_reply, reply_at, reply, follow, run, replies, PromptCall, PromptRun}
+use Rattle.stacks.specs.Calls.{marked, answered, handed_answer, asked_of, reply_at, reply, follow, run, replies, PromptCall, PromptRun}
 use Rattle.stacks.specs.Promise.{Settles, Lasts}
 
 -- one document more

@@ -1,15 +1,15 @@
 -- A stack moves every document, and all that follows, by the sum of its adjustments.
-use Rattle.std.proofs.Common.{◌≡◌, ℕ, zero, suc, ◌+◌, ◌-◌, ◌≤◌, min, Bool, true, false, cond, ◌&&◌, ltb, leb, List, [], ◌∷◌, ◌++◌, map, Some, None, Option, sym, refl, ap, ◌∙◌, subst, ap₂, add-zero, add_assoc, arith}
+use Rattle.std.proofs.Common.{◌≡◌, ℕ, ◌+◌, ◌≤◌, min, Bool, true, false, cond, ◌&&◌, ltb, leb, List, [], ◌∷◌, map, Some, None, Option, sym, refl, ap, ◌∙◌, ap₂, add-zero, add_assoc, arith}
 use Rattle.std.specs.Option.{option_map}
 use Rattle.std.proofs.lemmas.Bool.Decides.{nat_tests}
 use Rattle.documents.specs.declared.document.Document.{Document}
 use Rattle.streams.specs.Streams.{Parts, later_of, due}
-use Rattle.streams.specs.Stacks.{Delay, holding, retiming, altered, adjustment, delayed, stack, later}
+use Rattle.streams.specs.Stacks.{Delay, holding, retiming, altered, adjustment, stack, later}
 use Rattle.questions.specs.declared.window.Window.{Window}
 use Rattle.questions.specs.Resolved.{earlier_of, plus, resolved_begin_of, own_end_of, resolved_end_of}
-use Rattle.questions.specs.Asking.{is_active, found, naming, active_of, active}
+use Rattle.questions.specs.Asking.{is_active, found, naming, active}
 use Rattle.questions.proofs.Latest.{asked}
-use Rattle.stacks.specs.Promise.{adjustments, IsWindow, Moved, Moves}
+use Rattle.stacks.specs.Promise.{adjustments, Moves}
 
 -- e is d, later by k
 record Shifted (k : ℕ) (d e : Document) : Type 0 where

@@ -1,5 +1,5 @@
 -- The promise of a stack, from its parts.
-use Rattle.std.proofs.Common.{◌≡◌, ℕ, ◌+◌, ◌≤◌, List, sym, refl, ap, ◌∙◌, subst, ap₂, arith}
+use Rattle.std.proofs.Common.{◌≡◌, ℕ, ◌+◌, ◌≤◌, List, sym, ap, ◌∙◌, subst, arith}
 use Rattle.streams.specs.declared.stream.Stream.{Ghosts}
 use Rattle.streams.specs.Streams.{Parts, Lawful}
 use Rattle.streams.specs.Stacks.{Delay, stack}
@@ -12,7 +12,7 @@ use Rattle.stacks.specs.Calls.{run, replies, PromptRun}
 use Rattle.stacks.specs.Sendings.{Served, said}
 use Rattle.stacks.specs.Promise.{Answers, Settles, Lasts, Moves, Alike, Promise, adjustments}
 use Rattle.stacks.proofs.Growth.{settles, lasts}
-use Rattle.stacks.proofs.Moving.{moves, total_stacked}
+use Rattle.stacks.proofs.Moving.{moves}
 use Rattle.stacks.proofs.Following.{run_stacked, alike, total_run}
 
 -- a

@@ -1,5 +1,5 @@
 -- A stack that does not take keeps its parts whatever it is sent.
-use Rattle.std.proofs.Common.{◌≡◌, ℕ, false, List, refl}
+use Rattle.std.proofs.Common.{◌≡◌, false, refl}
 use Rattle.std.proofs.lemmas.Bool.{true≢false}
 use Rattle.fields.specs.Faults.{Told, fine, refused}
 use Rattle.documents.specs.declared.document.Document.{Document}

@@ -1,5 +1,5 @@
 -- What sending to both streams comes to.
-use Rattle.std.proofs.Common.{◌≡◌, ℕ, ◌<◌, ◌≤◌, true, false, leb, ◌⊎◌, List, [], length, sym, refl, subst, ⊎_elim}
+use Rattle.std.proofs.Common.{◌≡◌, ◌<◌, ◌≤◌, true, false, leb, ◌⊎◌, List, [], length, sym, refl, subst, ⊎_elim}
 use Rattle.std.proofs.lemmas.Bool.{and_from, and_left, and_right, le-leb, lt-leb}
 use Rattle.stacks.specs.declared.calls.Call.{Call}
 use Rattle.stacks.specs.declared.calls.Reply.{Reply}

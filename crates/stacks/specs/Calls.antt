@@ -1,8 +1,7 @@
 -- The calls, what is answered to them, and the book that follows from them.
-use Rattle.std.specs.Prelude.{◌≡◌, ℕ, zero, suc, Bool, true, false, List, [], ◌∷◌, Some, None, Option}
+use Rattle.std.specs.Prelude.{ℕ, zero, suc, Bool, true, false, List, [], ◌∷◌, Some, None, Option}
 use Rattle.times.specs.Refusals.{number_of}
 use Rattle.fields.specs.Faults.{Told, fine, refused, cause_number_of}
-use Rattle.documents.specs.declared.document.Document.{Document}
 use Rattle.streams.specs.Streams.{Parts, Entry}
 use Rattle.streams.specs.Taking.{take_refusal, after_take, tick_refusal, after_tick, Prompt}
 use Rattle.streams.specs.Handing.{hand_in_told, hand_in_after, PromptHandIn}

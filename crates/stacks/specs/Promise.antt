@@ -1,5 +1,5 @@
 -- What a stack promises after every list of calls.
-use Rattle.std.specs.Prelude.{◌≡◌, ℕ, ◌+◌, ◌<◌, ◌≤◌, Bool, true, false, List, [], ◌∷◌, Some, None, Option, nat_lt}
+use Rattle.std.specs.Prelude.{◌≡◌, ℕ, ◌+◌, ◌<◌, ◌≤◌, true, false, List, [], ◌∷◌, Some, Option, nat_lt}
 use Rattle.std.specs.List.{slice_get}
 use Rattle.times.specs.Clock.{entry_limit, last_moment}
 use Rattle.streams.specs.declared.stream.Stream.{Ghosts}

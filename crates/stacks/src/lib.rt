@@ -7,6 +7,8 @@
 // A reader must believe, in specs/: `reply`, `follow`, `run` and `replies` (Calls: the book, and what it
 // answers), `Served` (Sendings), and `Promise` (what a stack promises).
 
+#![tactic(auto)]
+
 pub mod calls;
 pub mod making;
 pub mod sending;

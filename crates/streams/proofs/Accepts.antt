@@ -1,10 +1,10 @@
 -- What a take has found where it refuses nothing, and what the table is after it.
-use Rattle.std.proofs.Common.{◌≡◌, ℕ, ◌+◌, ◌-◌, ◌<◌, ◌≤◌, min, Bool, true, false, cond, eqb, ltb, leb, List, [], ◌∷◌, ◌++◌, length, take, set, Some, None, Option, sym, refl, ap, ◌∙◌, arith}
+use Rattle.std.proofs.Common.{◌≡◌, ℕ, ◌+◌, ◌-◌, ◌<◌, ◌≤◌, Bool, true, false, cond, eqb, ltb, leb, List, [], ◌∷◌, ◌++◌, length, take, set, Some, None, Option, sym, ap, ◌∙◌, arith}
 use Rattle.std.proofs.lemmas.Bool.{ne_eqb, le-ltb, lt-leb, leb-true, and_parts}
 use Rattle.std.proofs.lemmas.List.{take_more_set, length-set}
 use Rattle.documents.specs.declared.document.Document.{Document}
-use Rattle.streams.specs.Streams.{Parts, Entry, up_to, orderly, timely, later_of}
-use Rattle.streams.specs.Taking.{last_from, last_number_of, take_refusal, taken, after_take}
+use Rattle.streams.specs.Streams.{Parts, Entry, orderly, timely, later_of}
+use Rattle.streams.specs.Taking.{last_number_of, take_refusal, taken, after_take}
 use Rattle.streams.specs.Tables.{usable, table_parts, records_after}
 use Rattle.streams.specs.Fronts.{last_available, orderly_push, available_push}
 

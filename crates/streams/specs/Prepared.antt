@@ -1,6 +1,6 @@
 -- The prepared list: which entries open, and what the stream over them means.
-use Rattle.std.specs.Prelude.{◌≡◌, ℕ, zero, suc, ◌+◌, ◌<◌, ◌≤◌, Bool, true, false, cond, ◌&&◌, List, [], ◌∷◌, length, Some, None, Option, nat_le, nat_lt, slice_index_or, refl}
-use Rattle.std.proofs.Common.{sym, ap, ◌∙◌, arith}
+use Rattle.std.specs.Prelude.{◌≡◌, ℕ, zero, suc, ◌+◌, ◌<◌, ◌≤◌, Bool, true, cond, ◌&&◌, List, [], ◌∷◌, length, Some, None, Option, nat_le, nat_lt, slice_index_or, refl}
+use Rattle.std.proofs.Common.{ap, ◌∙◌, arith}
 use Rattle.std.specs.List.{slice_get}
 use Rattle.std.proofs.lemmas.Bool.{and_parts, and_from, leb-true, ltb-true, le-leb}
 use Rattle.times.specs.declared.refusal.Refusal.{Refusal}
@@ -9,7 +9,7 @@ use Rattle.times.specs.Clock.{entry_limit}
 use Rattle.documents.specs.declared.document.Document.{Document}
 use Rattle.streams.specs.declared.prepared.Entry.{Entry}
 use Rattle.streams.specs.Streams.{Parts, Lawful, orderly, most_shown}
-use Rattle.streams.specs.Fronts.{Orderly, orderly_from}
+use Rattle.streams.specs.Fronts.{orderly_from}
 
 -- an entry's begin does not fall below b and lies before its end, which is within the entry limit
 abbrev pub fits : ℕ → Entry → Bool

@@ -1,7 +1,7 @@
 -- What a live table means, and what the records hold that it was lent.
 use Rattle.std.specs.Prelude.{ℕ, ◌-◌, min, cond, List, length, take, Some, ◌==◌, slice_set}
 use Rattle.documents.specs.declared.document.Document.{Document}
-use Rattle.streams.specs.Streams.{Parts, Entry, most_shown}
+use Rattle.streams.specs.Streams.{Parts, most_shown}
 use Rattle.streams.specs.Taking.{take_refusal}
 
 -- how many of the lent records a table uses

@@ -9,6 +9,8 @@
 // `table_parts` (what a live table means), `hand_in_told` and `hand_in_after`; and, for the delay nodes that
 // come above, `stack` (what nodes make of the parts of a bare stream).
 
+#![tactic(auto)]
+
 pub mod hand_in;
 pub mod lent;
 pub mod live;

@@ -1,4 +1,4 @@
-use Rattle.std.proofs.Common.{◌≡◌, ℕ, Bool, true, ◌&&◌, List, get_or}
+use Rattle.std.proofs.Common.{◌≡◌, ℕ, true, List, get_or}
 use Rattle.std.proofs.lemmas.Bool.{and_parts, eqb-true}
 use Rattle.times.specs.Clock.{is_digit_of, shaped}
 

@@ -8,6 +8,8 @@
 // each cause of a time), `read_time_of`, `time_text` and the two limits (Clock), `outcome` and `into` (what a
 // call that fills an output answers and leaves), `put_before` (what a writer leaves).
 
+#![tactic(auto)]
+
 pub mod clock;
 pub mod put;
 pub mod refusal;

@@ -1,5 +1,5 @@
 use Rattle.std.proofs.Common.{refl, arith}
-use Rattle.examples.proofs.Hidden.{shows_first_two}
+use Rattle.examples.proofs.NeverShown.{shows_first_two}
 use Rattle.examples.proofs.worked.worked_examples.Goals as goal
 
 -- one row after another

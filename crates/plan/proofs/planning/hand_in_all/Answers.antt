@@ -1,4 +1,4 @@
-use Rattle.std.proofs.Common.{◌≡◌, ◌+◌, List, ◌++◌, length, take, drop, sym, refl, ap, ◌∙◌, arith}
+use Rattle.std.proofs.Common.{◌≡◌, ◌+◌, ◌++◌, length, take, drop, sym, refl, ap, ◌∙◌, arith}
 use Rattle.plan.specs.Left.{left, piece_of}
 use Rattle.plan.specs.Plans.{handed_in_of, refusals_text}
 use Rattle.plan.proofs.Notes.{run_more, text_more, noting_start, noting_more, noting_all}
@@ -12,11 +12,11 @@ pub loop-piece-preserved : goal.loop-piece-preserved
 loop-piece-preserved g c =
     let i = c.loop-piece.invariant in
     let p = g.T.Stream.parts c.loop-piece.stream in
-    let p' = g.T.Stream.parts c.hand-in-answer.new.stream in
+    let p' = g.T.Stream.parts c.hand_in-answer.new.stream in
     let x = piece_of c.in-Some.piece in
     let e = c.in-Some.ensures.cases in
     let few : length (left c.loop-piece.pieces) ≡ length (left c.next.new.self) + 1 = omega (arith, ap length e) in
-    let a = c.hand-in-answer.ensures in
+    let a = c.hand_in-answer.ensures in
     let m = c.note-at.ensures in (
       run_more p p' x _ _ e a.after ∙ i.0,
       noting_more c.args.from c.loop-piece.at c.note-at.result c.loop-piece.document p p' (left c.loop-piece.pieces) (left c.next.new.self) _ c.loop-piece.out c.note-at.new.out _ c.args.out.now
@@ -28,7 +28,7 @@ loop-piece-preserved g c =
 pub returns : goal.returns
 returns g c =
     let i = c.loop-piece.invariant in
-    let none = c.in-default.ensures.cases in
+    let none = c.in_default.ensures.cases in
     let p = g.T.Stream.parts c.loop-piece.stream in
     let p₀ = g.T.Stream.parts c.args.stream.now in
     let all = c.new-pieces.ensures.all in

@@ -4,6 +4,6 @@ use Rattle.plan.proofs.planning.write.Goals as goal
 
 pub returns : goal.returns
 returns g c =
-    let h = c.hand-in-all.ensures in
+    let h = c.hand_in_all.ensures in
     let pre = c.requires in
-    whole c.args.window c.args.begin c.hand-in-all.result _ _ _ _ _ c.args.out.now _ _ _ h.after pre.begins h.end (omega (arith, h.end, pre.room)) (h.written (omega (arith, h.end, pre.room))) c.put-bytes-names.ensures c.put-schedule.ensures
+    whole c.args.window c.args.begin c.hand_in_all.result _ _ _ _ _ c.args.out.now _ _ _ h.after pre.begins h.end (omega (arith, h.end, pre.room)) (h.written (omega (arith, h.end, pre.room))) c.put_bytes-names.ensures c.put_schedule.ensures

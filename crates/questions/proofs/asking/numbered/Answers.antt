@@ -1,8 +1,8 @@
-use Rattle.std.proofs.Common.{◌≡◌, ◌≤◌, eqb, length, sym, refl, ◌∙◌, arith}
+use Rattle.std.proofs.Common.{◌≤◌, eqb, length, sym, ◌∙◌, arith}
 use Rattle.std.proofs.lemmas.List.{at_drop_all}
 use Rattle.std.proofs.lemmas.Bool.{eq-eqb, ne_eqb}
 use Rattle.questions.specs.Asking.{found}
-use Rattle.questions.proofs.Scanning.{found_here, found_not_here, drop-none, none_here}
+use Rattle.questions.proofs.Scanning.{found_here, found_not_here, none_here}
 use Rattle.questions.proofs.asking.numbered.Goals as goal
 use Rattle.questions.proofs.asking.numbered.Goals.{in-Some+else-document-number, in-None}
 
@@ -14,7 +14,7 @@ returns-then-document-number g c =
 pub loop-i-preserved : goal.loop-i-preserved
 loop-i-preserved g c =
     let shown = (g.S.Stream.parts c.args.stream.now).shown in
-    elim c.match-document-at.branch [
+    elim c.match-document_at.branch [
       | in-Some+else-document-number w ↦ found_not_here (λ d. eqb d.number c.args.number) shown c.loop-i.i w.in-Some.document w.in-Some.ensures (ne_eqb _ _ w.if-document-number.false) ∙ c.loop-i.invariant
       | in-None w ↦ none_here (λ d. eqb d.number c.args.number) shown c.loop-i.i w.in-None.ensures ∙ c.loop-i.invariant
     ]

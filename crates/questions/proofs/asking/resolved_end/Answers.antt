@@ -1,4 +1,4 @@
-use Rattle.std.proofs.Common.{◌≡◌, ℕ, ◌+◌, ◌-◌, ◌≤◌, List, length, drop, sym, refl, ap, ◌∙◌, arith}
+use Rattle.std.proofs.Common.{◌≡◌, ℕ, ◌+◌, ◌-◌, ◌≤◌, List, length, drop, sym, ap, ◌∙◌, arith}
 use Rattle.std.proofs.lemmas.List.{at_drop_all}
 use Rattle.documents.specs.declared.document.Document.{Document}
 use Rattle.questions.specs.Resolved.{resolved_end_of}
@@ -11,7 +11,7 @@ loop-i-init g c =
     let w = c.args.window in
     let d = c.args.document.now in
     let h : length shown ≤ c.count-i.result = omega arith in
-    (omega arith, c.own-end-end.ensures ∙ sym (at_drop_all (λ (v : List Document). resolved_end_of w v d) shown c.count-i.result h))
+    (omega arith, c.own_end-end.ensures ∙ sym (at_drop_all (λ (v : List Document). resolved_end_of w v d) shown c.count-i.result h))
 
 pub loop-i-preserved : goal.loop-i-preserved
 loop-i-preserved g c =
@@ -20,4 +20,4 @@ loop-i-preserved g c =
     let d = c.args.document.now in
     let i = c.loop-i.i in
     let e : i ≡ i - 1 + 1 = omega arith in
-    (omega arith, end_less w d c.loop-i.end c.cut-by-end.result c.document-at.result shown (i - 1) c.document-at.ensures (c.loop-i.invariant.1 ∙ ap (λ (m : ℕ). resolved_end_of w (drop m shown) d) e) c.cut-by-end.ensures)
+    (omega arith, end_less w d c.loop-i.end c.cut_by-end.result c.document_at.result shown (i - 1) c.document_at.ensures (c.loop-i.invariant.1 ∙ ap (λ (m : ℕ). resolved_end_of w (drop m shown) d) e) c.cut_by-end.ensures)

@@ -8,8 +8,8 @@ loop-mark-init g c =
     let e = c.start-mark.ensures.intervals in
     (c.requires.1, c.requires.0 ∙ ap length (sym e), ap (λ (is : List Interval). is ++ drop c.args.n c.args.out.now) e)
 
-pub overflow-sub-free : goal.overflow-sub-free
-overflow-sub-free g c = omega (arith, length_pushed _ _ _ c.in-Some.ensures.intervals, c.loop-mark.invariant.1)
+pub overflow_sub-free : goal.overflow_sub-free
+overflow_sub-free g c = omega (arith, length_pushed _ _ _ c.in-Some.ensures.intervals, c.loop-mark.invariant.1)
 
 pub bounds-out-free : goal.bounds-out-free
 bounds-out-free g c = omega (arith, length_pushed _ _ _ c.in-Some.ensures.intervals, c.loop-mark.invariant.1)

@@ -21,5 +21,5 @@ returns g c =
     let rs = c.args.replies.now in
     let os = c.args.others.now in
     let full : room cs rs os ≡ true = some_room cs rs os (omega arith) (omega arith) in
-    let d = deliver g.D.Stream g.B.Stream cs _ c.args.stack.now c.send-each.new.stack rs c.send-each.new.replies c.args.second.now c.send-each-2.new.stack os c.send-each-2.new.replies (cond-true _ cs [] full) c.send-each.ensures.prompt c.send-each.ensures.served c.send-each-2.ensures.served in
+    let d = deliver g.D.Stream g.B.Stream cs _ c.args.stack.now c.send_each.new.stack rs c.send_each.new.replies c.args.second.now c.send_each-2.new.stack os c.send_each-2.new.replies (cond-true _ cs [] full) c.send_each.ensures.prompt c.send_each.ensures.served c.send_each-2.ensures.served in
     record { result = sym (cond-true _ (answered (length cs)) (unsent 17) full); stack = d.first; second = d.other; promise = d.promised }

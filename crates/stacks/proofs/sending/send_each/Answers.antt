@@ -1,4 +1,4 @@
-use Rattle.std.proofs.Common.{◌≡◌, ◌<◌, length, sym, refl, ap, ◌∙◌, arith}
+use Rattle.std.proofs.Common.{◌<◌, length, sym, refl, ◌∙◌, arith}
 use Rattle.std.proofs.lemmas.List.{at_drop_all, drop-set-lt}
 use Rattle.stacks.specs.Calls.{run}
 use Rattle.stacks.proofs.Following.{run_more, answers_more, answers_all, prompt_more, prompt_all}

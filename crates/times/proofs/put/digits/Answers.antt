@@ -3,8 +3,8 @@ use Rattle.std.proofs.lemmas.Fmt.{length-decimal-le, decimal_nonempty}
 use Rattle.times.proofs.Puts.{length_more, length-one}
 use Rattle.times.proofs.put.digits.Goals as goal
 
-pub overflow-add-count : goal.overflow-add-count
-overflow-add-count c =
+pub overflow_add-count : goal.overflow_add-count
+overflow_add-count c =
     omega (arith, length-decimal-le 20 c.args.number (omega arith) (omega arith) (omega arith), decimal_nonempty c.loop-left.left (omega arith), c.loop-left.invariant.1)
 
 pub loop-left-preserved : goal.loop-left-preserved

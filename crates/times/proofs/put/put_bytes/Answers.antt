@@ -4,4 +4,4 @@ use Rattle.times.proofs.put.put_bytes.Goals as goal
 
 pub returns : goal.returns
 returns c =
-    copied_part c.args.end c.min-room.result c.saturating-sub-lost.result _ c.args.text.now c.args.out.now _ _ c.min-room.ensures c.saturating-sub-lost.ensures refl refl c.copy-from-slice.ensures.after
+    copied_part c.args.end c.min-room.result c.saturating_sub-lost.result _ c.args.text.now c.args.out.now _ _ c.min-room.ensures c.saturating_sub-lost.ensures refl refl c.copy_from_slice.ensures.after

@@ -8,7 +8,7 @@ loop-left-init c = (omega arith, same_start _ _ _ _ refl)
 
 pub loop-left-preserved : goal.loop-left-preserved
 loop-left-preserved c =
-    (omega arith, same_more _ _ _ _ _ _ _ _ _ _ (decimal_step c.loop-left.left (omega arith) (omega arith)) c.put-byte-start.ensures c.loop-left.invariant.1)
+    (omega arith, same_more _ _ _ _ _ _ _ _ _ _ (decimal_step c.loop-left.left (omega arith) (omega arith)) c.put_byte-start.ensures c.loop-left.invariant.1)
 
 pub returns : goal.returns
-returns c = same_last _ _ _ _ _ _ _ _ _ (decimal_digit c.loop-left.left (omega arith)) c.put-byte.ensures c.loop-left.invariant.1
+returns c = same_last _ _ _ _ _ _ _ _ _ (decimal_digit c.loop-left.left (omega arith)) c.put_byte.ensures c.loop-left.invariant.1

@@ -1,4 +1,4 @@
-use Rattle.std.proofs.Common.{length, ◌∙◌, arith, rules}
+use Rattle.std.proofs.Common.{length, arith, rules}
 use Rattle.std.proofs.lemmas.Bool.{le-leb}
 use Rattle.fields.proofs.Cuts.{left_cut}
 use Rattle.fields.proofs.reader.Reader.next.Goals as goal

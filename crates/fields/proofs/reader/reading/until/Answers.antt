@@ -1,5 +1,5 @@
 use Rattle.std.proofs.Common.{arith}
-use Rattle.fields.proofs.Cuts.{before_more, before_here, before_end, before_le}
+use Rattle.fields.proofs.Cuts.{before_more, before_here, before_end}
 use Rattle.fields.proofs.reader.reading.until.Goals as goal
 
 pub loop-i-preserved : goal.loop-i-preserved

@@ -1,4 +1,4 @@
-use Rattle.std.proofs.Common.{refl, rules}
+use Rattle.std.proofs.Common.{refl}
 use Rattle.plan.proofs.Laws.{parts}
 use Rattle.plan.proofs.Cuts.{pieces_few}
 use Rattle.plan.proofs.pieces.Pieces.new.Goals as goal
