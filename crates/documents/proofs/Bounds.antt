@@ -46,7 +46,7 @@ end_some parent (Some w) c h s = cut_some parent.end (up_to_limit (parent.begin 
 
 ended : (es all : List Element) (rows : List Row) → Ended es → AllRead es rows all → Ended all
 ended es all [] k h = subst Ended h k
-ended es all (r ∷ rows) k h = ended (h.0 ∷ es) all rows ((λ s. end_some (nearest_in es (h.0.depth - 1)) h.0.end h.0.computed.end h.2.computed_end_of s), k) h.3
+ended es all (r ∷ rows) k h = ended (h.0 ∷ es) all rows ((λ s. end_some (nearest_in es (h.0.depth - 1)) h.0.end h.0.computed.end h.2.computed_end s), k) h.3
 
 -- one element more, in front of those whose greatest end is known
 most_more : (e : Element) (es : List Element) (b w c : Option ℕ) → e.end ≡ w → e.computed.end ≡ c → (is_some w ≡ true → is_some c ≡ true) → IsGreatest es b → IsGreatest (e ∷ es) (most_of b w c)

@@ -145,8 +145,8 @@ element_fine n es p e h =
       level = at-fine n l.offset _ d.0 d.1;
       begin = at-fine n b.offset _ wb.0 wb.1;
       end = at-fine n f.offset _ we.0 we.1;
-      computed_begin_of = at-fine n b.offset _ cb.0 cb.1;
-      computed_end_of = at-fine n f.offset _ ce.0 ce.1;
+      computed_begin = at-fine n b.offset _ cb.0 cb.1;
+      computed_end = at-fine n f.offset _ ce.0 ce.1;
     } in
     record {
       row = r;
@@ -169,8 +169,8 @@ element_is n es p r e same clear h =
     (then_is (time_at_of n b.0) _ e.begin e (at-is n b.0.offset _ e.begin (ap optional_time_of b.3 ∙ h.begin))
     (then_is (time_at_of n f.0) _ e.end e (at-is n f.0.offset _ e.end (ap optional_time_of f.3 ∙ h.end))
     (then_is (computed_at_of n b.0.offset f.0.offset parent e.begin e.end) _ e.computed e
-    (then_is (at n b.0.offset (begin_of parent e.begin)) _ e.computed.begin e.computed (at-is n b.0.offset _ e.computed.begin h.computed_begin_of)
-    (then_is (at n f.0.offset (end_of parent e.end)) _ e.computed.end e.computed (at-is n f.0.offset _ e.computed.end h.computed_end_of) refl))
+    (then_is (at n b.0.offset (begin_of parent e.begin)) _ e.computed.begin e.computed (at-is n b.0.offset _ e.computed.begin h.computed_begin)
+    (then_is (at n f.0.offset (end_of parent e.end)) _ e.computed.end e.computed (at-is n f.0.offset _ e.computed.end h.computed_end) refl))
     refl)))
 
 -- All element lines.

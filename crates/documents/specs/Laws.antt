@@ -41,8 +41,8 @@ pub record Reads (es : List Element) (r : Row) (e : Element) : Type 0 where
   pub level : level_field_of (depth_before es) r.level ≡ good e.depth
   pub begin : optional_time_of r.begin ≡ good e.begin
   pub end : optional_time_of r.end ≡ good e.end
-  pub computed_begin_of : begin_of (nearest_in es (e.depth - 1)) e.begin ≡ good e.computed.begin
-  pub computed_end_of : end_of (nearest_in es (e.depth - 1)) e.end ≡ good e.computed.end
+  pub computed_begin : begin_of (nearest_in es (e.depth - 1)) e.begin ≡ good e.computed.begin
+  pub computed_end : end_of (nearest_in es (e.depth - 1)) e.end ≡ good e.computed.end
 
 -- rows after the elements `es` say all the elements `all`
 abbrev pub AllRead : List Element → List Row → List Element → Type 0

@@ -12,7 +12,7 @@ use Rattle.streams.specs.Stacks.{Delay, holding, retiming, stack}
 use Rattle.questions.specs.declared.window.Window.{Window}
 use Rattle.questions.specs.declared.schedule.Interval.{Interval}
 use Rattle.questions.specs.Resolved.{Opening, opened, window_for}
-use Rattle.questions.specs.Schedules.{schedule_of_of}
+use Rattle.questions.specs.Schedules.{schedule_of}
 use Rattle.questions.specs.Asking.{Answer, active, interval, active_of, interval_of}
 
 -- the lines of a text, each with its line feed
@@ -110,7 +110,7 @@ Holds (takes p d n) = take_refusal p d ≡ n
 Holds (opens begin end r) = window_for begin end ≡ r
 Holds (shows p w t a) = active_of p w t ≡ a
 Holds (lasts p w n a) = interval_of p w n ≡ a
-Holds (lists p w is) = schedule_of_of w p.shown ≡ is
+Holds (lists p w is) = schedule_of w p.shown ≡ is
 Holds (hides p n) = (w : Window) (t content : ℕ) (settled : Bool) → active_of p w t ≢ active (Some (n, content)) settled
 Holds (alters nodes d e) = (after_take (stack nodes empty) d).shown ≡ e ∷ []
 

@@ -10,7 +10,7 @@ use Rattle.streams.specs.Fronts.{orderly_facts}
 use Rattle.questions.specs.declared.window.Window.{Window}
 use Rattle.questions.specs.declared.schedule.Interval.{Interval}
 use Rattle.questions.specs.Resolved.{resolved_begin_of, own_end_of, resolved_end_of, earlier_of, plus}
-use Rattle.questions.specs.Schedules.{listed, schedule_of_of}
+use Rattle.questions.specs.Schedules.{listed, schedule_of}
 use Rattle.questions.specs.Walks.{least_of, cut_interval, interval_before_of, intervals_before}
 
 least_push : (w : Window) (l : ℕ) (ds : List Document) (d : Document) → least_of w l (ds ++ d ∷ []) ≡ least_of w (min (resolved_begin_of w d) l) ds
@@ -115,5 +115,5 @@ intervals_past w l ds p i e s =
     past (d ∷ ds) (suc i) e = omega (arith, past ds i e)
 
 -- the whole walk
-pub schedule_walk : (w : Window) (lim l : ℕ) (ds : List Document) (n : ℕ) → orderly lim 0 0 ds ≡ true → n ≡ length ds → l ≡ w.end → intervals_before w l (take n ds) ≡ schedule_of_of w ds
+pub schedule_walk : (w : Window) (lim l : ℕ) (ds : List Document) (n : ℕ) → orderly lim 0 0 ds ≡ true → n ≡ length ds → l ≡ w.end → intervals_before w l (take n ds) ≡ schedule_of w ds
 schedule_walk w lim l ds n h e f = ap₂ (λ (k : ℕ) (xs : List Document). intervals_before w k xs) f (take_all n ds (omega arith)) ∙ sym (rising w lim 0 0 ds h)

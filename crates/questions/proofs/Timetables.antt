@@ -7,7 +7,7 @@ use Rattle.streams.specs.Fronts.{orderly_facts}
 use Rattle.questions.specs.declared.window.Window.{Window}
 use Rattle.questions.specs.declared.schedule.Interval.{Interval}
 use Rattle.questions.specs.Resolved.{resolved_begin_of, own_end_of}
-use Rattle.questions.specs.Schedules.{schedule_of_of, ◌∈◌, Follow, OnScreen, Timetable}
+use Rattle.questions.specs.Schedules.{schedule_of, ◌∈◌, Follow, OnScreen, Timetable}
 use Rattle.questions.specs.Walks.{least_of, cut_interval, intervals_before}
 use Rattle.questions.proofs.Backward.{Above, above-orderly, own_within, rising}
 
@@ -78,5 +78,5 @@ timetable_before w l lim n a (d ∷ ds) h =
     (λ t. (ltb-true _ _ t, follow-earlier d.number k (min (own_end_of w d) k) (intervals_before w l ds) (omega arith) after, first_shown w l d ds, rest))
     (λ _. rest)
 
-pub timetable : (w : Window) (lim : ℕ) (ds : List Document) → orderly lim 0 0 ds ≡ true → Timetable w ds (schedule_of_of w ds)
+pub timetable : (w : Window) (lim : ℕ) (ds : List Document) → orderly lim 0 0 ds ≡ true → Timetable w ds (schedule_of w ds)
 timetable w lim ds h = subst (Timetable w ds) (sym (rising w lim 0 0 ds h)) (timetable_before w w.end lim 0 0 ds h)

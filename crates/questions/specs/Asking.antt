@@ -43,13 +43,13 @@ active_of p w t =
     (active (option_map naming (found (is_active w p.shown t) p.shown)) (nat_lt t p.settled))
 
 -- the interval of a document: the mark is set exactly when the end is at most the settled moment
-abbrev pub interval_in_of : Parts → Window → Option Document → Answer
-interval_in_of p w None = refused 16
-interval_in_of p w (Some d) = interval (resolved_begin_of w d) (resolved_end_of w p.shown d) (nat_le (resolved_end_of w p.shown d) p.settled)
+abbrev pub interval_in : Parts → Window → Option Document → Answer
+interval_in p w None = refused 16
+interval_in p w (Some d) = interval (resolved_begin_of w d) (resolved_end_of w p.shown d) (nat_le (resolved_end_of w p.shown d) p.settled)
 
 -- the interval question names a number; one that is not shown is 16
 abbrev pub interval_of : Parts → Window → ℕ → Answer
-interval_of p w n = interval_in_of p w (found (λ d. nat_eq d.number n) p.shown)
+interval_of p w n = interval_in p w (found (λ d. nat_eq d.number n) p.shown)
 
 -- the calls' results, with their numbers
 abbrev pub told_active : Result (Option (ℕ × ℕ) × Bool) Refusal → Answer

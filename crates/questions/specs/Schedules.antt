@@ -15,8 +15,8 @@ listed w shown [] = []
 listed w shown (d ∷ ds) = cond (nat_lt (resolved_begin_of w d) (resolved_end_of w shown d)) (interval_of w shown d ∷ listed w shown ds) (listed w shown ds)
 
 -- the schedule of a shown list
-abbrev pub schedule_of_of : Window → List Document → List Interval
-schedule_of_of w shown = listed w shown shown
+abbrev pub schedule_of : Window → List Document → List Interval
+schedule_of w shown = listed w shown shown
 
 -- Laws of a schedule, in words of its own.
 

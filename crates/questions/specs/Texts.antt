@@ -5,7 +5,7 @@ use Rattle.times.specs.Clock.{time_text}
 use Rattle.documents.specs.declared.document.Document.{Document}
 use Rattle.questions.specs.declared.window.Window.{Window}
 use Rattle.questions.specs.declared.schedule.Interval.{Interval}
-use Rattle.questions.specs.Schedules.{schedule_of_of}
+use Rattle.questions.specs.Schedules.{schedule_of}
 
 -- the names line
 abbrev pub schedule_names : List ℕ
@@ -24,4 +24,4 @@ intervals_text is = schedule_names ++ flat_map interval_text is
 
 -- the text of the schedule of a shown list
 abbrev pub schedule_text_of : Window → List Document → List ℕ
-schedule_text_of w shown = intervals_text (schedule_of_of w shown)
+schedule_text_of w shown = intervals_text (schedule_of w shown)

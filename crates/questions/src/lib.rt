@@ -5,7 +5,7 @@
 // writes that list, over any stream, into memory that the host lends.
 //
 // A reader must believe, in specs/: `window_for` (which windows can be made), `resolved_begin_of`, `own_end_of`
-// and `resolved_end_of` (Resolved), `schedule_of_of` and `Timetable` (Schedules: the list, and the laws that it
+// and `resolved_end_of` (Resolved), `schedule_of` and `Timetable` (Schedules: the list, and the laws that it
 // keeps), `interval_text` and `schedule_text_of` (Texts).
 
 #![tactic(auto)]

@@ -6,7 +6,7 @@
 
 ghost use Rattle.std.specs.Prelude.{◌≡◌, ◌-◌, ◌≤◌, min, ◌++◌, length, take, drop};
 ghost use Rattle.times.specs.Refusals.{outcome, into};
-ghost use Rattle.questions.specs.Schedules.{schedule_of_of, Timetable};
+ghost use Rattle.questions.specs.Schedules.{schedule_of, Timetable};
 ghost use Rattle.questions.specs.Walks.{interval_before_of, intervals_before, held};
 
 pub mod text;
@@ -36,7 +36,7 @@ pub struct Mark {
 impl Mark {
     // Before the last document: all intervals are still to come.
     fn start<S: Stream>(stream: &S, window: Window) -> Mark
-        ensures intervals { intervals_before window result.least (take result.place (S.Stream.parts stream.now).shown) ≡ schedule_of_of window (S.Stream.parts stream.now).shown }
+        ensures intervals { intervals_before window result.least (take result.place (S.Stream.parts stream.now).shown) ≡ schedule_of window (S.Stream.parts stream.now).shown }
         ensures few { result.place ≤ 4096 }
     {
         Mark {
@@ -83,7 +83,7 @@ fn step_back<S: Stream>(stream: &S, window: Window, mark: &mut Mark) -> Option<I
 
 // How many documents the schedule lists.
 fn listed_count<S: Stream>(stream: &S, window: Window) -> usize
-    ensures { result ≡ length (schedule_of_of window (S.Stream.parts stream.now).shown) }
+    ensures { result ≡ length (schedule_of window (S.Stream.parts stream.now).shown) }
 {
     let mut mark = Mark::start(stream, window);
     let mut n = 0;
@@ -98,8 +98,8 @@ fn listed_count<S: Stream>(stream: &S, window: Window) -> usize
 
 // Fills the first `n` records, from the last of them to the first.
 fn fill<S: Stream>(stream: &S, window: Window, n: usize, out: &mut [Interval])
-    requires { (n ≡ length (schedule_of_of window (S.Stream.parts stream.now).shown)) × (n ≤ length out.old) }
-    ensures { out.new ≡ schedule_of_of window (S.Stream.parts stream.now).shown ++ drop n out.old }
+    requires { (n ≡ length (schedule_of window (S.Stream.parts stream.now).shown)) × (n ≤ length out.old) }
+    ensures { out.new ≡ schedule_of window (S.Stream.parts stream.now).shown ++ drop n out.old }
 {
     let mut mark = Mark::start(stream, window);
     let mut free = n;
@@ -120,8 +120,8 @@ pub fn schedule<S: Stream>(
     window: Window,
     out: &mut [Interval],
 ) -> Result<usize, Refusal>
-    ensures lists { outcome result out.new ≡ into (schedule_of_of window (S.Stream.parts stream.now).shown) out.old }
-    ensures laws { Timetable window (S.Stream.parts stream.now).shown (schedule_of_of window (S.Stream.parts stream.now).shown) }
+    ensures lists { outcome result out.new ≡ into (schedule_of window (S.Stream.parts stream.now).shown) out.old }
+    ensures laws { Timetable window (S.Stream.parts stream.now).shown (schedule_of window (S.Stream.parts stream.now).shown) }
 {
     let n = listed_count(stream, window);
     if out.len() < n {

@@ -14,7 +14,7 @@ use Rattle.streams.specs.Taking.{take_refusal_by, taken, tick_refusal_by, ticked
 use Rattle.streams.specs.Handing.{after_read, prompt_read}
 use Rattle.questions.specs.declared.window.Window.{Window}
 use Rattle.questions.specs.Resolved.{resolved_begin_of, own_end_of, resolved_end_of}
-use Rattle.questions.specs.Asking.{refused, active, interval, is_active, found, naming, interval_in_of}
+use Rattle.questions.specs.Asking.{refused, active, interval, is_active, found, naming, interval_in}
 use Rattle.stacks.specs.declared.calls.Call.{Call}
 use Rattle.stacks.specs.declared.calls.Call.TheVariants.{HandIn, Take, Tick, Active, Interval}
 use Rattle.stacks.specs.Calls.{marked, answered, handed_answer, asked_of, reply_at, reply, follow, run, replies, PromptCall, PromptRun}
@@ -65,14 +65,14 @@ active_same t s s' f f' false same le m =
 
 interval_same : (w : Window) (p p' : Parts) (o : Option Document) → p.settled ≤ p'.settled
     → ((d : Document) → resolved_end_of w p.shown d ≤ p.settled → resolved_end_of w p'.shown d ≡ resolved_end_of w p.shown d)
-    → marked (interval_in_of p w o) ≡ true → interval_in_of p' w o ≡ interval_in_of p w o
+    → marked (interval_in p w o) ≡ true → interval_in p' w o ≡ interval_in p w o
 interval_same w p p' None le same m = refl
 interval_same w p p' (Some d) le same m =
     let h = leb-true (resolved_end_of w p.shown d) p.settled m in
     let e = same d h in
     rw e (ap (interval (resolved_begin_of w d) (resolved_end_of w p.shown d)) (le-leb (resolved_end_of w p.shown d) p'.settled (omega arith) ∙ sym m))
 
-marked_some : (w : Window) (p : Parts) (o : Option Document) → marked (interval_in_of p w o) ≡ true → (d : Document) × (o ≡ Some d)
+marked_some : (w : Window) (p : Parts) (o : Option Document) → marked (interval_in p w o) ≡ true → (d : Document) × (o ≡ Some d)
 marked_some w p None m = absurd (false≢true m)
 marked_some w p (Some d) m = (d, refl)
 
@@ -89,7 +89,7 @@ stays_taken p e x h (Interval w n) m =
     let there = marked_some w p (found (λ d. eqb d.number n) p.shown) m in
     let more = found_more (λ d. eqb d.number n) p.shown (e.appearance x ∷ []) there.0 there.1 in
     let still : found (λ d. eqb d.number n) p'.shown ≡ found (λ d. eqb d.number n) p.shown = more ∙ sym there.1 in
-    ap (interval_in_of p' w) still
+    ap (interval_in p' w) still
     ∙ interval_same w p p' (found (λ d. eqb d.number n) p.shown) (omega arith)
     (λ d k. omega (arith, end_more w p.shown (e.appearance x) d, h, due-begin w (e.appearance x))) m
 
