@@ -3,8 +3,7 @@
 
 # Proves and builds showplan, and runs it on the sample feed.
 run:
-	rt check showplan
-	target/bin/showplan < samples/morning.txt
+	cd crates/showplan && rt run < ../../samples/morning.txt
 
 # The whole gate: all proofs, must-fail edits, tests and comparisons.
 gate:
