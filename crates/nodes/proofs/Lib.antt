@@ -1,3 +1,4 @@
 pub mod Alterable
 pub mod Commutes
 pub mod Chosens
+pub mod Piling

@@ -1,3 +1,4 @@
 pub mod Approvals
 pub mod Delays
 pub mod Choosing
+pub mod Piles

@@ -7,6 +7,7 @@ ghost use Rattle.nodes.specs.Approvals.{told_approval, approval_of};
 
 pub mod chosen;
 pub mod holder;
+pub mod pile;
 pub mod retimer;
 
 use documents::document::Document;
@@ -45,6 +46,13 @@ impl Adjustment {
     {
         self.amount
             .min(MOST_TOTAL.saturating_sub(below.total_adjustment()))
+    }
+
+    // The same over a stream of this total.
+    fn in_force_over(self, total: u32) -> u32
+        ensures { result ≡ min self.amount (4800000 - total) }
+    {
+        self.amount.min(MOST_TOTAL.saturating_sub(total))
     }
 }
 

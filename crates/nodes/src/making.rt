@@ -4,9 +4,11 @@
 ghost use Rattle.std.specs.Prelude.{◌≡◌, ◌∷◌};
 ghost use Rattle.streams.specs.Stacks.{holding, retiming, delayed};
 ghost use Rattle.nodes.specs.Choosing.{chosen_parts, chosen_nodes};
+ghost use Rattle.nodes.specs.Piles.{standing, pile_parts, pile_nodes};
 
 use crate::delay::Adjustment;
 use crate::delay::chosen::Choice;
+use crate::delay::pile::Nodes;
 use streams::stream::Stream;
 
 // A holder over a stream.
@@ -30,5 +32,13 @@ pub trait ChosenOver<S: Stream>: Stream + Sized {
     fn over(below: S, choice: Choice) -> Self
         ensures parts { Self.Stream.parts result ≡ chosen_parts choice (S.Stream.parts below) }
         ensures nodes { Self.Stream.nodes result ≡ chosen_nodes choice (S.Stream.nodes below) }
+        ensures bare { Self.Stream.bare result ≡ S.Stream.bare below };
+}
+
+// Several nodes over a stream, the lowest first.
+pub trait PileOver<S: Stream>: Stream + Sized {
+    fn over(below: S, nodes: Nodes) -> Self
+        ensures parts { Self.Stream.parts result ≡ pile_parts (standing nodes) (S.Stream.parts below) }
+        ensures nodes { Self.Stream.nodes result ≡ pile_nodes (standing nodes) (S.Stream.nodes below) }
         ensures bare { Self.Stream.bare result ≡ S.Stream.bare below };
 }

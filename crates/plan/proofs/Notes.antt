@@ -10,7 +10,7 @@ use Rattle.fields.specs.declared.fault.Rejection.{Rejection}
 use Rattle.streams.specs.Streams.{Parts}
 use Rattle.streams.specs.Handing.{hand_in_told, hand_in_after}
 use Rattle.plan.specs.Plans.{handed_in_of, refusal_text, refusals_text}
-use Rattle.plan.specs.Lines.{rejection_text, rejection_length}
+use Rattle.plan.specs.Lines.{rejection_fields, rejection_text, rejection_length}
 
 pub length-rejection : (k : ℕ) (r : Rejection) → length (rejection_text k r) ≡ rejection_length k r
 length-rejection k r = simp length-append (omega arith)
@@ -79,16 +79,16 @@ noting_all from at k p xs out whole out₀ e h =
           ∙ append_assoc (take from out₀) whole (drop at out₀);
     }
 
-field_then : (end r s n b : ℕ) (text out out' out'' : List ℕ) → Puts text end out r out' → Puts (decimal n ++ (b ∷ [])) r out' s out'' → Puts (decimal n ++ (b ∷ text)) end out s out''
+pub field_then : (end r s n b : ℕ) (text out out' out'' : List ℕ) → Puts text end out r out' → Puts (decimal n ++ (b ∷ [])) r out' s out'' → Puts (decimal n ++ (b ∷ text)) end out s out''
 field_then end r s n b text out out' out'' p q =
     subst (λ (t : List ℕ). Puts t end out s out'') (append_assoc (decimal n) (b ∷ []) text) (put_then end r s (decimal n ++ (b ∷ [])) text out out' out'' p q)
 
--- the five numbers of a line, from the last to the first
-pub line_puts : (why : Rejection) (k n x end a b c d e : ℕ) (o oa ob oc od oe : List ℕ) → n ≡ number_of why.refusal → x ≡ cause_number_of why.cause
+-- the four numbers of a refusal, from the last to the first
+pub four-puts : (why : Rejection) (n x end a b c d : ℕ) (o oa ob oc od : List ℕ) → n ≡ number_of why.refusal → x ≡ cause_number_of why.cause
     → Puts (decimal x ++ (10 ∷ [])) end o a oa → Puts (decimal why.byte ++ (44 ∷ [])) a oa b ob → Puts (decimal why.line ++ (44 ∷ [])) b ob c oc
-    → Puts (decimal n ++ (44 ∷ [])) c oc d od → Puts (decimal k ++ (44 ∷ [])) d od e oe → Puts (rejection_text k why) end o e oe
-line_puts why k n x end a b c d e o oa ob oc od oe en ex pa pb pc pd pe =
+    → Puts (decimal n ++ (44 ∷ [])) c oc d od → Puts (rejection_fields why) end o d od
+four-puts why n x end a b c d o oa ob oc od en ex pa pb pc pd =
     let qa = subst (λ j. Puts (decimal j ++ (10 ∷ [])) end o a oa) ex pa in
     let qd = subst (λ j. Puts (decimal j ++ (44 ∷ [])) c oc d od) en pd in
     let qc = field_then end b c why.line 44 _ o ob oc (field_then end a b why.byte 44 _ o oa ob qa pb) pc in
-    field_then end d e k 44 _ o od oe (field_then end c d (number_of why.refusal) 44 _ o oc od qc qd) pe
+    field_then end c d (number_of why.refusal) 44 _ o oc od qc qd

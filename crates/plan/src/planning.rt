@@ -3,16 +3,16 @@
 // The lines of refused pieces come after a text whose length is known only at the end, so the input is
 // handed in twice, each time to an empty table: once to measure, once to write.
 
-ghost use Rattle.std.specs.Prelude.{◌≡◌, ◌+◌, ◌*◌, ◌≤◌, true, [], ◌∷◌, ◌++◌, length, take, drop, is_ok, decimal, Option};
-ghost use Rattle.times.specs.Refusals.{outcome, into};
+ghost use Rattle.std.specs.Prelude.{◌≡◌, ◌+◌, ◌*◌, ◌≤◌, true, ◌++◌, length, take, drop, is_ok};
 ghost use Rattle.times.specs.Put.{Puts};
-ghost use Rattle.times.specs.declared.clock.TimeFault.{TimeFault};
-ghost use Rattle.fields.specs.Faults.{told, cause_number_of};
+ghost use Rattle.times.specs.Refusals.{outcome, into};
+ghost use Rattle.fields.specs.Faults.{told};
 ghost use Rattle.questions.specs.Texts.{schedule_text_of};
 ghost use Rattle.plan.specs.Pieces.{pieces_of};
+ghost use Rattle.plan.specs.Lines.{rejection_text};
 ghost use Rattle.plan.specs.Plans.{handed_in_of, refusal_text, refusals_text, refusal_names, plan_text, plan_in, plan_of};
-ghost use Rattle.plan.specs.Lines.{rejection_text, rejection_length};
 
+use crate::columns::{line_length, put_field, put_rejection};
 use crate::pieces::Pieces;
 use documents::document::Document;
 use fields::fault::Rejection;
@@ -23,8 +23,8 @@ use streams::live::LiveTable;
 use streams::making::TableOver;
 use streams::stream::Stream;
 use streams::taking::TakingStream;
-use times::clock::{ENTRY_LIMIT, TimeFault};
-use times::put::{digits, put_byte, put_bytes, put_number};
+use times::clock::ENTRY_LIMIT;
+use times::put::put_bytes;
 use times::refusal::Refusal;
 
 // The longest input that is read.
@@ -37,46 +37,12 @@ const NAMES: &[u8] = b"document,refusal,line,byte,cause\n";
 // What is printed of an input that is too long.
 const TOO_LONG: &[u8] = b"number,begin,end,content\ndocument,refusal,line,byte,cause\n0,1,0,0,0\n";
 
-// The number of a time cause, 0 where there is none.
-fn cause_number(cause: Option<TimeFault>) -> u8
-    ensures { result ≡ cause_number_of cause }
-{
-    match cause {
-        Some(fault) => fault.cause(),
-        None => 0,
-    }
-}
-
-// Puts a number and the byte after it.
-fn put_field(out: &mut [u8], end: usize, number: u64, after: u8) -> usize
-    ensures { Puts (decimal number ++ (after ∷ [])) end out.old result out.new }
-{
-    let start = put_byte(out, end, after);
-    put_number(out, start, number)
-}
-
 // Puts the line of a refused piece before a place of the output.
 fn put_line(out: &mut [u8], end: usize, document: usize, why: Rejection) -> usize
     ensures { Puts (rejection_text document why) end out.old result out.new }
 {
-    let a = put_field(out, end, cause_number(why.cause) as u64, b'\n');
-    let b = put_field(out, a, why.byte as u64, b',');
-    let c = put_field(out, b, why.line as u64, b',');
-    let d = put_field(out, c, why.refusal.number() as u64, b',');
-    put_field(out, d, document as u64, b',')
-}
-
-// How long the line of a refused piece is.
-fn line_length(document: usize, why: Rejection) -> usize
-    ensures value { result ≡ rejection_length document why }
-    ensures bound { result ≤ 105 }
-{
-    let numbers = digits(document as u64) + digits(why.refusal.number() as u64);
-    numbers
-        + digits(why.line as u64)
-        + digits(why.byte as u64)
-        + digits(cause_number(why.cause) as u64)
-        + 5
+    let start = put_rejection(out, end, why);
+    put_field(out, start, document as u64, b',')
 }
 
 // Puts the line of a piece that was refused at a place of the output, and answers where the next line

@@ -1,0 +1,9 @@
+use Rattle.plan.proofs.Notes.{field_then}
+use Rattle.scripts.proofs.Columns.{few_then}
+use Rattle.scripts.proofs.printing.put_node.Goals as goal
+
+pub returns : goal.returns
+returns c =
+    let a = c.put_field-start.ensures in
+    let b = c.put_field.ensures in
+    record { puts = field_then _ _ _ _ _ _ _ _ _ a.puts b.puts; few = few_then _ _ 21 _ b.few a.few }
