@@ -84,11 +84,18 @@ field_then end r s n b text out out' out'' p q =
     subst (λ (t : List ℕ). Puts t end out s out'') (append_assoc (decimal n) (b ∷ []) text) (put_then end r s (decimal n ++ (b ∷ [])) text out out' out'' p q)
 
 -- the four numbers of a refusal, from the last to the first
-pub four-puts : (why : Rejection) (n x end a b c d : ℕ) (o oa ob oc od : List ℕ) → n ≡ number_of why.refusal → x ≡ cause_number_of why.cause
+pub four_puts : (why : Rejection) (n x end a b c d : ℕ) (o oa ob oc od : List ℕ) → n ≡ number_of why.refusal → x ≡ cause_number_of why.cause
     → Puts (decimal x ++ (10 ∷ [])) end o a oa → Puts (decimal why.byte ++ (44 ∷ [])) a oa b ob → Puts (decimal why.line ++ (44 ∷ [])) b ob c oc
     → Puts (decimal n ++ (44 ∷ [])) c oc d od → Puts (rejection_fields why) end o d od
-four-puts why n x end a b c d o oa ob oc od en ex pa pb pc pd =
+four_puts why n x end a b c d o oa ob oc od en ex pa pb pc pd =
     let qa = subst (λ j. Puts (decimal j ++ (10 ∷ [])) end o a oa) ex pa in
     let qd = subst (λ j. Puts (decimal j ++ (44 ∷ [])) c oc d od) en pd in
     let qc = field_then end b c why.line 44 _ o ob oc (field_then end a b why.byte 44 _ o oa ob qa pb) pc in
     field_then end c d (number_of why.refusal) 44 _ o oc od qc qd
+
+-- the five numbers of a line: those four, and the piece's count in front
+pub line_puts : (why : Rejection) (k n x end a b c d e : ℕ) (o oa ob oc od oe : List ℕ) → n ≡ number_of why.refusal → x ≡ cause_number_of why.cause
+    → Puts (decimal x ++ (10 ∷ [])) end o a oa → Puts (decimal why.byte ++ (44 ∷ [])) a oa b ob → Puts (decimal why.line ++ (44 ∷ [])) b ob c oc
+    → Puts (decimal n ++ (44 ∷ [])) c oc d od → Puts (decimal k ++ (44 ∷ [])) d od e oe → Puts (rejection_text k why) end o e oe
+line_puts why k n x end a b c d e o oa ob oc od oe en ex pa pb pc pd pe =
+    field_then end d e k 44 _ o od oe (four_puts why n x end a b c d o oa ob oc od en ex pa pb pc pd) pe

@@ -198,5 +198,5 @@ pub fn read_command(line: Line) -> Option<Command>
     }
     let mut fields = Reader::new(line.bytes, 0, COMMA);
     let word = fields.next()?;
-    worded(word.bytes, &mut fields)
+    worded(word.bytes, &mut fields) // the other fields follow its word
 }

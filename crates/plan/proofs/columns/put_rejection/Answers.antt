@@ -2,7 +2,7 @@ use Rattle.std.proofs.Common.{◌≡◌, ℕ, length, decimal, ap, arith}
 use Rattle.std.proofs.lemmas.List.{length-append}
 use Rattle.fields.specs.Faults.{cause_number_of}
 use Rattle.times.specs.Refusals.{number_of}
-use Rattle.plan.proofs.Notes.{four-puts}
+use Rattle.plan.proofs.Notes.{four_puts}
 use Rattle.plan.proofs.columns.put_rejection.Goals as goal
 
 pub returns : goal.returns
@@ -15,6 +15,6 @@ returns c =
     let cause : length (decimal c.cause_number.result) ≡ length (decimal (cause_number_of why.cause)) = ap (λ (n : ℕ). length (decimal n)) c.cause_number.ensures in
     let number : length (decimal c.number.result) ≡ length (decimal (number_of why.refusal)) = ap (λ (n : ℕ). length (decimal n)) c.number.ensures in
     record {
-      puts = four-puts why _ _ c.args.end _ _ _ _ c.args.out.now _ _ _ _ c.number.ensures c.cause_number.ensures a.puts b.puts d.puts e.puts;
+      puts = four_puts why _ _ c.args.end _ _ _ _ c.args.out.now _ _ _ _ c.number.ensures c.cause_number.ensures a.puts b.puts d.puts e.puts;
       few = simp length-append (omega (arith, cause, number, simp length-append at a.few, simp length-append at b.few, simp length-append at d.few, simp length-append at e.few));
     }
