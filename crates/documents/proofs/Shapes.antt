@@ -2,7 +2,7 @@
 use Rattle.std.proofs.Common.{◌≡◌, ℕ, ◌+◌, ◌-◌, ◌<◌, ◌≤◌, Bool, true, false, cond, ◌&&◌, eqb, leb, List, [], ◌∷◌, ◌++◌, length, get_or, take, Some, None, Option, sym, refl, ap, ◌∙◌, subst, ap₂, arith}
 use Rattle.std.specs.Str.{bytes_eq}
 use Rattle.std.proofs.lemmas.Slice.Eq.{bytes_eq-Decides}
-use Rattle.std.proofs.lemmas.List.{append_assoc, length_push, take_all, take_at, take_more, get_or_at}
+use Rattle.std.proofs.lemmas.List.{append_assoc, append-nil, length_push, take_all, take_at, take_more, get_or_at}
 use Rattle.std.proofs.lemmas.Bool.{false≢true, eqb-true, eqb-false, eq-eqb, ne_eqb, le-leb, leb-true, and_parts, and_from, cond-true, cond-false}
 use Rattle.fields.specs.Faults.{Judged, good, bad, Told, fine, refused, at, then, time_field_of, optional_time_of}
 use Rattle.fields.specs.Parts.{Part, longer, parts, nth_part, first, rest, bytes_of, join_by, Lacks, Clear}
@@ -96,11 +96,7 @@ bytes_none (p ∷ ps) e = let z : ◌≡◌ {A = ℕ} 0 1 = cc in absurd (omega 
 
 -- the text of lines, and the lines with line feeds between them
 lines_text_is : (l : List ℕ) (ls : List (List ℕ)) → join_by 10 (l ∷ ls) ++ (10 ∷ []) ≡ text_of (l ∷ ls)
-lines_text_is l [] = ap (λ (x : List ℕ). x) (sym (nil (l ++ (10 ∷ []))))
-  where
-    nil : (xs : List ℕ) → xs ++ [] ≡ xs
-    nil [] = refl
-    nil (x ∷ xs) = ap (λ (ys : List ℕ). x ∷ ys) (nil xs)
+lines_text_is l [] = sym (append-nil (l ++ (10 ∷ [])))
 lines_text_is l (m ∷ ls) =
     append_assoc l (10 ∷ join_by 10 (m ∷ ls)) (10 ∷ [])
     ∙ ap (λ (x : List ℕ). l ++ (10 ∷ x)) (lines_text_is m ls)

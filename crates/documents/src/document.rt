@@ -2,7 +2,7 @@
 
 // One live document: its sequence number, when it is available, the times that its elements give it,
 // and the host's key to what is drawn. An absent time is `None`.
-#[derive(Clone, Copy)]
+#[derive(Clone, Copy, Debug, Default, PartialEq, Eq)]
 pub struct Document {
     pub number: u32,
     pub available: u32,

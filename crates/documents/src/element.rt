@@ -1,8 +1,8 @@
 // Elements: their computed times, and what the elements read so far amount to.
 
-ghost use Rattle.std.specs.Prelude.{◌≡◌, ◌+◌, ◌-◌, slice_index_or, slice_set};
+ghost use Rattle.std.specs.Prelude.{◌≡◌, ◌+◌, ◌-◌, slice_index_or};
 ghost use Rattle.fields.specs.Faults.{judged, told};
-ghost use Rattle.documents.specs.Elements.{begin_of, end_of, least_of, most_of, up_to_limit, cut_to, root, time_at_of, computed_at_of};
+ghost use Rattle.documents.specs.Elements.{begin_of, end_of, least_of, most_of, up_to_limit, cut_to, root, time_at_of};
 ghost use Rattle.fields.specs.Left.{part_of};
 ghost use Rattle.documents.specs.Reading.{element_times_of};
 ghost use Rattle.documents.specs.Outlines.{start as start_outline, grown};
@@ -12,15 +12,16 @@ use fields::reader::Field;
 use times::clock::ENTRY_LIMIT;
 
 // The computed times of an element. An absent end is that of an element with no end around it.
-#[derive(Clone, Copy)]
+#[derive(Clone, Copy, Debug, PartialEq, Eq)]
 pub struct Computed {
     pub begin: u32,
     pub end: Option<u32>,
 }
 
 // One element: how deep it stands, the times that it writes, and its computed times.
-#[derive(Clone, Copy)]
+#[derive(Clone, Copy, Debug, PartialEq, Eq)]
 pub struct Element {
+    // a number, for the rule counts with it, and a narrower type would ask more of callers
     pub depth: u8,
     pub begin: Option<u32>,
     pub end: Option<u32>,
@@ -28,10 +29,12 @@ pub struct Element {
 }
 
 // What is kept of the elements read so far: the depth of the last one, the computed times of the last
-// one of each depth, and the document's begin and end.
-#[derive(Clone, Copy)]
+// one of each depth, from 0 for the body's parent, and the document's begin and end.
+#[derive(Clone, Copy, Debug, PartialEq, Eq)]
 pub struct Outline {
+    // 0 before the first element: a number, as an element's, for the same reason
     pub depth: u8,
+    // by depth, in fixed memory: there is no heap, and an outline is copied
     pub levels: [Computed; 5],
     pub begin: Option<u32>,
     pub end: Option<u32>,
@@ -43,36 +46,27 @@ const ROOT: Computed = Computed {
     end: None,
 };
 
-// A place for each depth from 0, the body's parent's, to 4.
-const DEPTHS: usize = 5;
-
 // A sum of two times, unless it passes the entry limit.
 fn sum_of(a: u32, b: u32) -> Result<u32, FieldFault>
     ensures { judged result ≡ up_to_limit (a + b) }
 {
-    let sum = a as u64 + b as u64;
-    if sum > ENTRY_LIMIT as u64 {
-        return Err(FieldFault::Limit);
-    }
-    Ok(sum as u32)
+    a.checked_add(b)
+        .filter(|sum| *sum <= ENTRY_LIMIT)
+        .ok_or(FieldFault::Limit)
 }
 
 fn computed_begin(parent: Computed, written: Option<u32>) -> Result<u32, FieldFault>
     ensures { judged result ≡ begin_of parent written }
 {
-    match written {
-        Some(time) => sum_of(parent.begin, time),
-        None => Ok(parent.begin),
-    }
+    written.map_or(Ok(parent.begin), |time| sum_of(parent.begin, time))
 }
 
+// The line of `earlier` in questions: one for both is no plainer, since `map_or` is the whole of it and each cites its
+// own definition.
 fn cut_to(end: Option<u32>, time: u32) -> u32
     ensures { result ≡ cut_to end time }
 {
-    match end {
-        Some(end) => time.min(end),
-        None => time,
-    }
+    end.map_or(time, |end| time.min(end))
 }
 
 fn computed_end(parent: Computed, written: Option<u32>) -> Result<Option<u32>, FieldFault>
@@ -88,22 +82,19 @@ fn computed_end(parent: Computed, written: Option<u32>) -> Result<Option<u32>, F
 fn least(so_far: Option<u32>, written: Option<u32>, computed: u32) -> Option<u32>
     ensures { result ≡ least_of so_far written computed }
 {
-    match (so_far, written) {
-        (_, None) => so_far,
-        (None, Some(_)) => Some(computed),
-        (Some(least), Some(_)) => Some(least.min(computed)),
+    if written.is_none() {
+        return so_far;
     }
+    Some(so_far.map_or(computed, |least| least.min(computed)))
 }
 
 fn most(so_far: Option<u32>, written: Option<u32>, computed: Option<u32>) -> Option<u32>
     ensures { result ≡ most_of so_far written computed }
 {
-    match (so_far, written, computed) {
-        (_, None, _) => so_far,
-        (None, Some(_), _) => computed,
-        (Some(_), Some(_), None) => so_far,
-        (Some(most), Some(_), Some(end)) => Some(most.max(end)),
+    if written.is_none() {
+        return so_far;
     }
+    so_far.max(computed)
 }
 
 // A time that may be absent, at its line.
@@ -111,21 +102,6 @@ pub fn time_at(line: usize, field: Field) -> Result<Option<u32>, Rejection>
     ensures { told result ≡ time_at_of line (part_of field.entry) }
 {
     Ok(placed(line, field.offset, optional_time(field.bytes))?)
-}
-
-fn computed_at(
-    line: usize,
-    at_begin: usize,
-    at_end: usize,
-    parent: Computed,
-    begin: Option<u32>,
-    end: Option<u32>,
-) -> Result<Computed, Rejection>
-    ensures { told result ≡ computed_at_of line at_begin at_end parent begin end }
-{
-    let begin = placed(line, at_begin, computed_begin(parent, begin))?;
-    let end = placed(line, at_end, computed_end(parent, end))?;
-    Ok(Computed { begin, end })
 }
 
 // The element of a depth under a parent, from the fields of its begin and end.
@@ -140,32 +116,16 @@ pub fn element_times(
 {
     let written_begin = time_at(line, begin)?;
     let written_end = time_at(line, end)?;
-    let computed = computed_at(
-        line,
-        begin.offset,
-        end.offset,
-        parent,
-        written_begin,
-        written_end,
-    )?;
+    let computed = Computed {
+        begin: placed(line, begin.offset, computed_begin(parent, written_begin))?,
+        end: placed(line, end.offset, computed_end(parent, written_end))?,
+    };
     Ok(Element {
         depth,
         begin: written_begin,
         end: written_end,
         computed,
     })
-}
-
-fn with_level(levels: [Computed; 5], depth: u8, computed: Computed) -> [Computed; 5]
-    ensures { result ≡ slice_set levels depth computed }
-{
-    let at = depth as usize;
-    if at >= DEPTHS {
-        return levels;
-    }
-    let mut levels = levels;
-    levels[at] = computed;
-    levels
 }
 
 impl Outline {
@@ -186,20 +146,22 @@ impl Outline {
         ensures { result ≡ slice_index_or self.levels (depth - 1) root }
     {
         let parent = depth.saturating_sub(1) as usize;
-        if parent < DEPTHS {
-            self.levels[parent]
-        } else {
-            ROOT
-        }
+        self.levels.get(parent).copied().unwrap_or(ROOT)
     }
 
-    // One element more.
+    // One element more. A depth past the last place leaves the levels as they are.
     pub fn with(self, element: Element) -> Outline
         ensures { result ≡ grown self element }
     {
+        let at = element.depth as usize;
+        let mut levels = self.levels;
+        if at < levels.len() {
+            // no `get_mut`: tried, and what it leaves in the other places no proof knows
+            levels[at] = element.computed;
+        }
         Outline {
             depth: element.depth,
-            levels: with_level(self.levels, element.depth, element.computed),
+            levels,
             begin: least(self.begin, element.begin, element.computed.begin),
             end: most(self.end, element.end, element.computed.end),
         }

@@ -1,10 +1,10 @@
 // The text of a document: two names lines, a value line, and a line for each element.
 
-ghost use Rattle.std.specs.Prelude.{◌≡◌, ◌+◌, ◌^◌, ◌<◌, ◌≤◌, false, [], ◌∷◌, length, IfSome, None, MatchOption, ◌==◌};
+ghost use Rattle.std.specs.Prelude.{◌≡◌, ◌+◌, ◌^◌, ◌<◌, ◌≤◌, false, [], length, map, None, MatchOption, ◌==◌};
 ghost use Rattle.fields.specs.Faults.{told};
 ghost use Rattle.fields.specs.Parts.{parts};
 ghost use Rattle.fields.specs.Left.{left, part_of, part_in};
-ghost use Rattle.documents.specs.Reading.{names, number_at, moment_at_of, value_fields_of, values as values_in, read_document_of};
+ghost use Rattle.documents.specs.Reading.{names, value_fields_of, value_parts, read_document_of};
 ghost use Rattle.documents.specs.Laws.{Accepting, Bounding};
 ghost use Rattle.documents.specs.Outlines.{element_after, outline_of, read_lines_of};
 
@@ -19,12 +19,32 @@ use times::refusal::Refusal;
 // The longest text that is read.
 pub const TEXT_LIMIT: usize = 4096;
 
-const LINE_FEED: u8 = 10;
+const LINE_FEED: u8 = b'\n';
 
-const COMMA: u8 = 44;
+const COMMA: u8 = b',';
+
+// The line of the first element.
+const FIRST_ELEMENT: usize = 4;
+
+// A line that a reader handed out, so a reader of its fields can count to its end.
+#[derive(Clone, Copy)]
+struct Line<'a> {
+    part: Field<'a>,
+    ghost near: { part.offset + length part.bytes.now < 2 ^ 63 },
+}
+
+impl<'a> Line<'a> {
+    // Writes the line's fields into `fields`, where they are as many.
+    fn fill(self, fields: &mut [Field<'a>]) -> Option<()>
+        ensures len { length fields.new ≡ length fields.old }
+        ensures parts { MatchOption result ((length (parts 44 self.entry.part.offset self.entry.part.bytes.now) == length fields.old) ≡ false) (λ _. parts 44 self.entry.part.offset self.entry.part.bytes.now ≡ map part_of fields.new) }
+    {
+        Reader::new(self.part.bytes, self.part.offset, COMMA).fill(fields)
+    }
+}
 
 // The value line's four values.
-#[derive(Clone, Copy)]
+#[derive(Clone, Copy, Debug, PartialEq, Eq)]
 pub struct Values {
     pub number: u32,
     pub available: u32,
@@ -62,24 +82,12 @@ fn check_names(
     }
 }
 
-fn number_at(low: u32, field: Field) -> Result<u32, Rejection>
-    ensures { told result ≡ number_at low (part_of field.entry) }
-{
-    Ok(placed(2, field.offset, read_number(low, field.bytes))?)
-}
-
-fn moment_at(field: Field) -> Result<u32, Rejection>
-    ensures { told result ≡ moment_at_of (part_of field.entry) }
-{
-    Ok(placed(2, field.offset, time_field(field.bytes))?)
-}
-
 fn value_fields(n: Field, a: Field, c: Field, d: Field) -> Result<Values, Rejection>
     ensures { told result ≡ value_fields_of (part_of n.entry) (part_of a.entry) (part_of c.entry) (part_of d.entry) }
 {
-    let number = number_at(1, n)?;
-    let available = moment_at(a)?;
-    let content = number_at(0, c)?;
+    let number = placed(2, n.offset, read_number(1, n.bytes))?;
+    let available = placed(2, a.offset, time_field(a.bytes))?;
+    let content = placed(2, c.offset, read_number(0, c.bytes))?;
     let dur = time_at(2, d)?;
     Ok(Values {
         number,
@@ -89,73 +97,45 @@ fn value_fields(n: Field, a: Field, c: Field, d: Field) -> Result<Values, Reject
     })
 }
 
-fn four_fields<'a>(line: Field<'a>) -> Option<(Field<'a>, Field<'a>, Field<'a>, Field<'a>)>
-    requires { line.offset + length line.bytes.now < 2 ^ 63 }
-    ensures { MatchOption result ((length (parts 44 line.entry.offset line.entry.bytes.now) == 4) ≡ false) (λ t. parts 44 line.entry.offset line.entry.bytes.now ≡ part_of t.0 ∷ part_of t.1 ∷ part_of t.2 ∷ part_of t.3 ∷ []) }
+fn read_values(line: Line) -> Result<Values, Rejection>
+    ensures { told result ≡ value_parts line.entry.part.offset (parts 44 line.entry.part.offset line.entry.part.bytes.now) }
 {
-    let mut fields = Reader::new(line.bytes, line.offset, COMMA);
-    let a = fields.next()?;
-    let b = fields.next()?;
-    let c = fields.next()?;
-    let d = fields.next()?;
-    if fields.next().is_some() {
-        return None;
-    }
-    Some((a, b, c, d))
-}
-
-fn three_fields<'a>(line: Field<'a>) -> Option<(Field<'a>, Field<'a>, Field<'a>)>
-    requires { line.offset + length line.bytes.now < 2 ^ 63 }
-    ensures { MatchOption result ((length (parts 44 line.entry.offset line.entry.bytes.now) == 3) ≡ false) (λ t. parts 44 line.entry.offset line.entry.bytes.now ≡ part_of t.0 ∷ part_of t.1 ∷ part_of t.2 ∷ []) }
-{
-    let mut fields = Reader::new(line.bytes, line.offset, COMMA);
-    let a = fields.next()?;
-    let b = fields.next()?;
-    let c = fields.next()?;
-    if fields.next().is_some() {
-        return None;
-    }
-    Some((a, b, c))
-}
-
-fn read_values(len: usize, part: Option<Field>) -> Result<Values, Rejection>
-    requires { IfSome part (λ f. f.offset + length f.bytes.now < 2 ^ 63) }
-    ensures { told result ≡ values_in len (part_in part.entry) }
-{
-    let Some(line) = part else {
-        return Err(rejection(Refusal::FieldCount, 2, len));
+    let mut fields = [line.part; 4];
+    let Some(()) = line.fill(&mut fields) else {
+        return Err(rejection(Refusal::FieldCount, 2, line.part.offset));
     };
-    let Some((n, a, c, d)) = four_fields(line) else {
-        return Err(rejection(Refusal::FieldCount, 2, line.offset));
-    };
+    let [n, a, c, d] = fields;
     value_fields(n, a, c, d)
 }
 
-fn read_element(line: usize, outline: Outline, part: Field) -> Result<Element, Rejection>
-    requires { part.offset + length part.bytes.now < 2 ^ 63 }
-    ensures { told result ≡ element_after line outline (part_of part.entry) }
+fn read_element(number: usize, outline: Outline, line: Line) -> Result<Element, Rejection>
+    ensures { told result ≡ element_after number outline (part_of line.entry.part) }
 {
-    let Some((level, begin, end)) = three_fields(part) else {
-        return Err(rejection(Refusal::FieldCount, line, part.offset));
+    let mut fields = [line.part; 3];
+    let Some(()) = line.fill(&mut fields) else {
+        return Err(rejection(Refusal::FieldCount, number, line.part.offset));
     };
-    let depth = placed(line, level.offset, level_field(outline.depth, level.bytes))?;
-    element_times(line, depth, outline.parent_of(depth), begin, end)
+    let [level, begin, end] = fields;
+    let depth = placed(
+        number,
+        level.offset,
+        level_field(outline.depth, level.bytes),
+    )?;
+    element_times(number, depth, outline.parent_of(depth), begin, end)
 }
 
-// The elements, from line 4 on.
+// The elements, from line 4 on. The first is read by itself, for there must be one.
 fn read_elements(len: usize, lines: &mut Reader) -> Result<Outline, Rejection>
     requires { length (left lines.old) ≤ 4097 }
     ensures { told result ≡ outline_of len (left lines.old) }
 {
     let Some(part) = lines.next() else {
-        return Err(rejection(Refusal::LevelOutOfPlace, 4, len));
+        return Err(rejection(Refusal::LevelOutOfPlace, FIRST_ELEMENT, len));
     };
     let start = Outline::start();
-    let mut outline = start.with(read_element(4, start, part)?);
-    let mut line = 5;
-    while let Some(part) = lines.next() {
-        outline = outline.with(read_element(line, outline, part)?);
-        line += 1;
+    let mut outline = start.with(read_element(FIRST_ELEMENT, start, Line { part })?);
+    for (i, part) in lines.enumerate() {
+        outline = outline.with(read_element(FIRST_ELEMENT + 1 + i, outline, Line { part })?);
     }
     Ok(outline)
 }
@@ -165,7 +145,10 @@ fn read_lines(len: usize, lines: &mut Reader) -> Result<Document, Rejection>
     ensures { told result ≡ read_lines_of len (left lines.old) }
 {
     check_names(len, 1, b"number,available,content,dur", lines.next())?;
-    let values = read_values(len, lines.next())?;
+    let Some(part) = lines.next() else {
+        return Err(rejection(Refusal::FieldCount, 2, len));
+    };
+    let values = read_values(Line { part })?;
     check_names(len, 3, b"level,begin,end", lines.next())?;
     let outline = read_elements(len, lines)?;
     Ok(Document {
@@ -186,8 +169,8 @@ pub fn read_document(text: &[u8]) -> Result<Document, Rejection>
 {
     let len = text.len();
     if len == 0 || len > TEXT_LIMIT || text[len - 1] != LINE_FEED {
-        return Err(rejection(Refusal::NotAText, 0, 0));
+        return Err(Refusal::NotAText.into());
     }
-    let mut lines = Reader::new(&text[0..len - 1], 0, LINE_FEED);
+    let mut lines = Reader::new(&text[..len - 1], 0, LINE_FEED);
     read_lines(len, &mut lines)
 }

@@ -8,6 +8,8 @@
 
 pub mod lending;
 #[cfg(test)]
+mod numbers;
+#[cfg(test)]
 mod plans;
 #[cfg(test)]
 mod schedules;

@@ -1,5 +1,6 @@
 // Windows, and the schedule of three and of four documents.
 
+use crate::numbers::{count, number};
 use documents::document::Document;
 use questions::schedule::text::schedule_text;
 use questions::schedule::{Interval, schedule};
@@ -12,21 +13,7 @@ use times::refusal::Refusal;
 
 // The number of the refusal of a window, or 0.
 fn window_refusal(begin: u32, end: u32) -> u8 {
-    match Window::new(begin, end) {
-        Ok(_) => 0,
-        Err(refusal) => refusal.number(),
-    }
-}
-
-fn blank() -> Document {
-    Document {
-        number: 0,
-        available: 0,
-        begin: None,
-        end: None,
-        dur: None,
-        content: 0,
-    }
+    number(Window::new(begin, end))
 }
 
 // The three documents of the worked example, and a fourth that ends before it is available.
@@ -34,14 +21,14 @@ fn three(table: &mut LiveTable) -> Result<(), Refusal> {
     let one = Document {
         number: 1,
         content: 11,
-        ..blank()
+        ..Document::default()
     };
     let two = Document {
         number: 2,
         available: 5_000,
         dur: Some(3_000),
         content: 12,
-        ..blank()
+        ..Document::default()
     };
     let three = Document {
         number: 3,
@@ -49,7 +36,7 @@ fn three(table: &mut LiveTable) -> Result<(), Refusal> {
         begin: Some(12_000),
         end: Some(15_000),
         content: 13,
-        ..blank()
+        ..Document::default()
     };
     table.take(one)?;
     table.take(two)?;
@@ -62,7 +49,7 @@ fn fourth() -> Document {
         available: 10_000,
         end: Some(9_000),
         content: 14,
-        ..blank()
+        ..Document::default()
     }
 }
 
@@ -76,14 +63,6 @@ fn shown(interval: Interval) -> (u32, u32, u32, u32) {
     )
 }
 
-// The count of a schedule, or 1000 and the number of its refusal.
-fn count(answer: Result<usize, Refusal>) -> usize {
-    match answer {
-        Ok(n) => n,
-        Err(refusal) => 1000 + refusal.number() as usize,
-    }
-}
-
 #[test]
 fn windows(rt: HostRuntime) {
     assert_eq!(rt; window_refusal(0, 355_199_999), 0);
@@ -95,7 +74,7 @@ fn windows(rt: HostRuntime) {
 
 #[test]
 fn three_documents_are_listed(rt: HostRuntime) -> Result<(), Fail> {
-    let mut records = [blank(); 4];
+    let mut records = [Document::default(); 4];
     let mut table = LiveTable::over(&mut records);
     assert!(rt; three(&mut table).is_ok());
     let Ok(window) = Window::new(0, 20_000) else {
@@ -119,7 +98,7 @@ fn three_documents_are_listed(rt: HostRuntime) -> Result<(), Fail> {
 
 #[test]
 fn a_document_that_never_shows_still_cuts(rt: HostRuntime) -> Result<(), Fail> {
-    let mut records = [blank(); 4];
+    let mut records = [Document::default(); 4];
     let mut table = LiveTable::over(&mut records);
     assert!(rt; three(&mut table).is_ok());
     assert!(rt; table.take(fourth()).is_ok());

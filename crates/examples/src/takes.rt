@@ -1,30 +1,20 @@
 // A live table over two records, call by call; and hand-in.
 
+use crate::numbers::number;
 use documents::document::Document;
 use streams::hand_in::hand_in;
 use streams::live::LiveTable;
 use streams::making::TableOver;
 use streams::stream::Stream;
 use streams::taking::TakingStream;
-use times::refusal::Refusal;
 
 // A document with no times but its available, and with a dur.
 fn document(number: u32, available: u32, dur: Option<u32>) -> Document {
     Document {
         number,
         available,
-        begin: None,
-        end: None,
         dur,
-        content: 0,
-    }
-}
-
-// The number of a refusal, or 0.
-fn number(answer: Result<(), Refusal>) -> u8 {
-    match answer {
-        Ok(()) => 0,
-        Err(refusal) => refusal.number(),
+        ..Document::default()
     }
 }
 

@@ -2,15 +2,6 @@
 
 use documents::document::Document;
 use documents::text::read_document;
-use times::clock::TimeFault;
-
-// The number of a time cause, or 0.
-fn cause_number(cause: Option<TimeFault>) -> u8 {
-    match cause {
-        Some(fault) => fault.cause(),
-        None => 0,
-    }
-}
 
 // The record of a refusal: number, line, byte, cause; all 0 for an accepted text.
 fn record(text: &[u8]) -> (u8, usize, usize, u8) {
@@ -20,28 +11,14 @@ fn record(text: &[u8]) -> (u8, usize, usize, u8) {
             why.refusal.number(),
             why.line,
             why.byte,
-            cause_number(why.cause),
+            why.cause.map_or(0, |fault| fault.cause()),
         ),
-    }
-}
-
-fn none() -> Document {
-    Document {
-        number: 0,
-        available: 0,
-        begin: None,
-        end: None,
-        dur: None,
-        content: 0,
     }
 }
 
 // The document of a text, or one whose values are all 0 or absent.
 fn document(text: &[u8]) -> Document {
-    match read_document(text) {
-        Ok(document) => document,
-        Err(_) => none(),
-    }
+    read_document(text).unwrap_or_default()
 }
 
 #[test]

@@ -1,5 +1,6 @@
 // Clock times: every cause, both limits, and what writing leaves in the output.
 
+use crate::numbers::number;
 use times::clock::{read_time, write_time};
 
 // The moment that a text reads as, and the number of the cause: one of them is 0.
@@ -12,10 +13,7 @@ fn reading(text: &[u8]) -> (u32, u8) {
 
 // The number of the refusal, or 0.
 fn writing(moment: u32, out: &mut [u8]) -> u8 {
-    match write_time(moment, out) {
-        Ok(_) => 0,
-        Err(refusal) => refusal.number(),
-    }
+    number(write_time(moment, out))
 }
 
 #[test]

@@ -9,7 +9,7 @@ use times::clock::{TimeFault, read_time};
 use times::refusal::Refusal;
 
 // Why a field is refused.
-#[derive(Clone, Copy)]
+#[derive(Clone, Copy, Debug, PartialEq, Eq)]
 pub enum FieldFault {
     // not a number of its range
     Number,
@@ -54,7 +54,7 @@ impl FieldFault {
 }
 
 // A field's fault and where the field stands: its line, from 1, and its offset in the text.
-#[derive(Clone, Copy)]
+#[derive(Clone, Copy, Debug, PartialEq, Eq)]
 pub struct PlacedFault {
     pub line: usize,
     pub offset: usize,
@@ -63,7 +63,7 @@ pub struct PlacedFault {
 
 // Why a text was not taken: the refusal, its line from 1, its byte offset, and the time's fault with
 // a refused time. Where no line is to blame, line and byte are 0.
-#[derive(Clone, Copy)]
+#[derive(Clone, Copy, Debug, PartialEq, Eq)]
 pub struct Rejection {
     pub refusal: Refusal,
     pub line: usize,
@@ -105,14 +105,11 @@ pub fn placed<T>(
 ) -> Result<T, PlacedFault>
     ensures { result ≡ placed_as line offset answer }
 {
-    match answer {
-        Ok(x) => Ok(x),
-        Err(fault) => Err(PlacedFault {
-            line,
-            offset,
-            fault,
-        }),
-    }
+    answer.map_err(|fault| PlacedFault {
+        line,
+        offset,
+        fault,
+    })
 }
 
 // A time that must be there.

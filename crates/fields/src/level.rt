@@ -7,13 +7,13 @@ ghost use Rattle.fields.specs.Levels.{level_of, depth_of, level_fits_of, level_f
 
 use crate::fault::FieldFault;
 
-// An element's level.
-#[derive(Clone, Copy)]
+// An element's level. Its number is its depth.
+#[derive(Clone, Copy, Debug, PartialEq, Eq)]
 pub enum Level {
-    Body,
-    Div,
-    P,
-    Span,
+    Body = 1,
+    Div = 2,
+    P = 3,
+    Span = 4,
 }
 
 impl Level {
@@ -21,16 +21,12 @@ impl Level {
     pub fn named(name: &[u8]) -> Option<Level>
         ensures { result ≡ level_of name.now }
     {
-        if is_text(name, b"body") {
-            Some(Level::Body)
-        } else if is_text(name, b"div") {
-            Some(Level::Div)
-        } else if is_text(name, b"p") {
-            Some(Level::P)
-        } else if is_text(name, b"span") {
-            Some(Level::Span)
-        } else {
-            None
+        match name {
+            b"body" => Some(Level::Body),
+            b"div" => Some(Level::Div),
+            b"p" => Some(Level::P),
+            b"span" => Some(Level::Span),
+            _ => None,
         }
     }
 
@@ -38,12 +34,7 @@ impl Level {
     pub fn depth(self) -> u8
         ensures { result ≡ depth_of self }
     {
-        match self {
-            Level::Body => 1,
-            Level::Div => 2,
-            Level::P => 3,
-            Level::Span => 4,
-        }
+        self as u8
     }
 }
 
@@ -66,16 +57,12 @@ fn level_fits(before: u8, depth: u8) -> bool
 }
 
 // The depth that a level's field names, where it may follow an element of the depth `before`.
+// A depth is a number, for the rule counts with it, and a narrower type would ask more of callers.
 pub fn level_field(before: u8, name: &[u8]) -> Result<u8, FieldFault>
     ensures { judged result ≡ level_field_of before name.now }
 {
-    let Some(level) = Level::named(name) else {
-        return Err(FieldFault::Level);
-    };
-    let depth = level.depth();
-    if level_fits(before, depth) {
-        Ok(depth)
-    } else {
-        Err(FieldFault::Level)
-    }
+    Level::named(name)
+        .map(Level::depth)
+        .filter(|depth| level_fits(before, *depth))
+        .ok_or(FieldFault::Level)
 }

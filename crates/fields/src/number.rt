@@ -19,7 +19,7 @@ fn digits(bytes: &[u8]) -> Option<u64>
         if !is_digit(*b) {
             return None;
         }
-        total = 10 * total + (*b - 48) as u64;
+        total = 10 * total + u64::from(*b - b'0');
     }
     Some(total)
 }
@@ -28,19 +28,11 @@ fn digits(bytes: &[u8]) -> Option<u64>
 pub fn read_number(low: u32, bytes: &[u8]) -> Result<u32, FieldFault>
     ensures { judged result ≡ number_field_of low bytes.now }
 {
-    if bytes.is_empty() || bytes.len() > MOST_DIGITS {
+    if !(1..=MOST_DIGITS).contains(&bytes.len()) || bytes.len() >= 2 && bytes[0] == b'0' {
         return Err(FieldFault::Number);
     }
-    if bytes.len() >= 2 && bytes[0] == 48 {
-        return Err(FieldFault::Number);
-    }
-    match digits(bytes) {
-        Some(n) => {
-            if n < low as u64 || n > u32::MAX as u64 {
-                return Err(FieldFault::Number);
-            }
-            Ok(n as u32)
-        }
-        None => Err(FieldFault::Number),
-    }
+    digits(bytes)
+        .and_then(|n| u32::try_from(n).ok())
+        .filter(|n| *n >= low)
+        .ok_or(FieldFault::Number)
 }

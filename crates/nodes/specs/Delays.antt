@@ -1,6 +1,6 @@
 -- What a node makes of lawful parts is lawful: facts that the nodes' ghost members cite.
 use Rattle.std.specs.Prelude.{◌≡◌, ℕ, zero, suc, ◌+◌, ◌≤◌, true, List, [], ◌∷◌, map, Some, None, Option, nat_le, refl}
-use Rattle.std.proofs.Common.{sym, ap, arith}
+use Rattle.std.proofs.Common.{sym, arith}
 use Rattle.std.specs.List.{slice_get}
 use Rattle.std.proofs.lemmas.Bool.{and_parts, and_from, leb-true, le-leb}
 use Rattle.std.proofs.lemmas.List.{length-map}
@@ -8,10 +8,6 @@ use Rattle.documents.specs.declared.document.Document.{Document}
 use Rattle.streams.specs.Streams.{Parts, Entry, Lawful, Faithful, up_to, timely, orderly, later_of}
 use Rattle.streams.specs.Stacks.{Delay, holding, retiming, adjustment, later, held, retimed, delayed, delayed_entry}
 use Rattle.streams.specs.Fronts.{orderly_facts, orderly_from}
-
-pub up_to_more : (l l' : ℕ) (o : Option ℕ) → l ≤ l' → up_to l o ≡ true → up_to l' o ≡ true
-up_to_more l l' (Some t) m h = le-leb t l' (omega (arith, leb-true t l h))
-up_to_more l l' None m h = refl
 
 pub up_to_later : (d l l' : ℕ) (o : Option ℕ) → l + d ≤ l' → up_to l o ≡ true → up_to l' (later d o) ≡ true
 up_to_later d l l' (Some t) m h = le-leb (t + d) l' (omega (arith, leb-true t l h))
@@ -38,11 +34,6 @@ timely_facts l x h =
 pub timely-from : (l : ℕ) (x : Document) → Timely l x → timely l x ≡ true
 timely-from l x h =
     and_from _ _ (le-leb _ _ h.available-in) (and_from _ _ h.begin-in (and_from _ _ h.end-in h.dur-in))
-
-pub timely_more : (l l' : ℕ) (x : Document) → l ≤ l' → timely l x ≡ true → timely l' x ≡ true
-timely_more l l' x m h =
-    let f = timely_facts l x h in
-    timely-from l' x (record { available-in = omega (arith, f.available-in); begin-in = up_to_more l l' _ m f.begin-in; end-in = up_to_more l l' _ m f.end-in; dur-in = f.dur-in })
 
 pub timely-held : (d l l' : ℕ) (x : Document) → l + d ≤ l' → timely l x ≡ true → timely l' (held d x) ≡ true
 timely-held d l l' x m h =
@@ -74,23 +65,6 @@ timely_nth l n a (y ∷ ys) zero x h e = let s : y ≡ x = cc in rw (sym s) (ord
 timely_nth l n a (y ∷ ys) (suc i) x h e =
     let f = orderly_facts l n a y ys h in timely_nth l y.number y.available ys i x f.rest e
 
-pub nth_map : (f : Document → Document) (xs : List Document) (i : ℕ) (x : Document) → slice_get xs i ≡ Some x → slice_get (map f xs) i ≡ Some (f x)
-nth_map f [] i x e = cc
-nth_map f (y ∷ ys) zero x e = let s : y ≡ x = cc in ap (λ (v : Document). Some (f v)) s
-nth_map f (y ∷ ys) (suc i) x e = nth_map f ys i x e
-
-pub nth_map_none : (f : Document → Document) (xs : List Document) (i : ℕ) → slice_get xs i ≡ None → slice_get (map f xs) i ≡ None
-nth_map_none f [] i e = refl
-nth_map_none f (y ∷ ys) zero e = cc
-nth_map_none f (y ∷ ys) (suc i) e = nth_map_none f ys i e
-
--- What a node answers at a place, from what the stream below answers there.
-pub altered_at : (f : ℕ → Document → Document) (d e : ℕ) (xs : List Document) (i : ℕ) (x y : Document) → e ≡ d → y ≡ f e x → Some x ≡ slice_get xs i → Some y ≡ slice_get (map (f d) xs) i
-altered_at f d e xs i x y p q h = let k = nth_map (f d) xs i x (sym h) in cc
-
-pub altered_none : (f : ℕ → Document → Document) (d : ℕ) (xs : List Document) (i : ℕ) → None ≡ slice_get xs i → None ≡ slice_get (map (f d) xs) i
-altered_none f d xs i h = sym (nth_map_none (f d) xs i (sym h))
-
 faithful_held : (d : ℕ) (o : Option Entry) → Faithful o → Faithful (delayed_entry (held d) o)
 faithful_held d (Some e) h = h
 faithful_held d None h = tt
@@ -120,3 +94,13 @@ delayed_lawful (retiming a) p h =
       bounded = omega (arith, h.bounded);
       faithful = faithful_retimed d p.entry h.faithful;
     }
+
+-- A limit may grow: no proof here cites it; proofs of a host's own may.
+pub up_to_more : (l l' : ℕ) (o : Option ℕ) → l ≤ l' → up_to l o ≡ true → up_to l' o ≡ true
+up_to_more l l' (Some t) m h = le-leb t l' (omega (arith, leb-true t l h))
+up_to_more l l' None m h = refl
+
+pub timely_more : (l l' : ℕ) (x : Document) → l ≤ l' → timely l x ≡ true → timely l' x ≡ true
+timely_more l l' x m h =
+    let f = timely_facts l x h in
+    timely-from l' x (record { available-in = omega (arith, f.available-in); begin-in = up_to_more l l' _ m f.begin-in; end-in = up_to_more l l' _ m f.end-in; dur-in = f.dur-in })

@@ -1,4 +1,5 @@
 pub mod Approvals
 pub mod Delays
+pub mod Delayings
 pub mod Choosing
 pub mod Piles

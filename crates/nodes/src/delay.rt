@@ -1,16 +1,19 @@
 // Approving an adjustment, and what every delay node does with one; the nodes themselves stand below.
 
-ghost use Rattle.std.specs.Prelude.{◌≡◌, ◌-◌, ◌≤◌, min, true};
-ghost use Rattle.streams.specs.Streams.{up_to, timely, due};
+ghost use Rattle.std.specs.Prelude.{◌≡◌, ◌+◌, ◌-◌, ◌≤◌, min, true};
+ghost use Rattle.streams.specs.Streams.{up_to, timely};
 ghost use Rattle.streams.specs.Stacks.{later, held, retimed};
 ghost use Rattle.nodes.specs.Approvals.{told_approval, approval_of};
 
 pub mod chosen;
+pub mod delayed;
+mod delaying;
 pub mod holder;
 pub mod pile;
 pub mod retimer;
 
 use documents::document::Document;
+use streams::due::due_moment;
 use streams::stream::Stream;
 use times::refusal::Refusal;
 
@@ -21,7 +24,7 @@ pub const MOST_ADJUSTMENT: u32 = 600_000;
 pub const MOST_TOTAL: u32 = 4_800_000;
 
 // An adjustment that was approved. `approve` is the only way to one.
-#[derive(Clone, Copy)]
+#[derive(Clone, Copy, Debug, PartialEq, Eq)]
 pub struct Adjustment {
     amount: u32,
 }
@@ -44,65 +47,64 @@ impl Adjustment {
     pub fn in_force<S: Stream>(self, below: &S) -> u32
         ensures { result ≡ min self.amount (4800000 - (S.Stream.parts below.now).total) }
     {
-        self.amount
-            .min(MOST_TOTAL.saturating_sub(below.total_adjustment()))
+        self.in_force_over(below.total_adjustment()).by
     }
 
     // The same over a stream of this total.
-    fn in_force_over(self, total: u32) -> u32
-        ensures { result ≡ min self.amount (4800000 - total) }
+    fn in_force_over(self, total: u32) -> InForce
+        ensures { result.by ≡ min self.amount (4800000 - total) }
     {
-        self.amount.min(MOST_TOTAL.saturating_sub(total))
+        InForce {
+            by: self.amount.min(MOST_TOTAL.saturating_sub(total)),
+        }
+    }
+
+    // The total of a node with this adjustment over a stream of this total.
+    fn total_over(self, below: u32) -> u32
+        ensures { result ≡ below + min self.amount (4800000 - below) }
+    {
+        below + self.in_force_over(below).by
     }
 }
 
-// A time that is there, moved; shown times are far enough from the largest number.
-fn moved(by: u32, time: Option<u32>) -> Option<u32>
-    requires { (by ≤ 4800000) × (up_to 359999999 time ≡ true) }
-    ensures { result ≡ later by time }
-{
-    match time {
-        Some(time) => Some(time + by),
-        None => None,
-    }
+// An adjustment in force: never so large that a shown time and it pass the largest number.
+#[derive(Clone, Copy)]
+struct InForce {
+    by: u32,
+    ghost small: { by ≤ 4800000 },
 }
 
-// A document as a holder shows it.
-fn hold(by: u32, x: &Document) -> Document
-    requires { (by ≤ 4800000) × (timely 359999999 x.now ≡ true) }
-    ensures { result ≡ held by x.now }
-{
-    Document {
-        number: x.number,
-        available: x.available + by,
-        begin: moved(by, x.begin),
-        end: moved(by, x.end),
-        dur: x.dur,
-        content: x.content,
+impl InForce {
+    // A time that is there, moved.
+    fn moved(self, time: Option<u32>) -> Option<u32>
+        requires { up_to 359999999 time ≡ true }
+        ensures { result ≡ later self.by time }
+    {
+        time.map(|time| time + self.by)
     }
-}
 
-// The later of a document's available and begin.
-fn due_moment(x: &Document) -> u32
-    ensures { result ≡ due x.now }
-{
-    match x.begin {
-        Some(begin) => x.available.max(begin),
-        None => x.available,
+    // A document as a holder shows it.
+    fn hold(self, x: &Document) -> Document
+        requires { timely 359999999 x.now ≡ true }
+        ensures { result ≡ held self.by x.now }
+    {
+        Document {
+            available: x.available + self.by,
+            begin: self.moved(x.begin),
+            end: self.moved(x.end),
+            ..*x
+        }
     }
-}
 
-// A document as a retimer shows it.
-fn retime(by: u32, x: &Document) -> Document
-    requires { (by ≤ 4800000) × (timely 359999999 x.now ≡ true) }
-    ensures { result ≡ retimed by x.now }
-{
-    Document {
-        number: x.number,
-        available: x.available,
-        begin: Some(due_moment(x) + by),
-        end: moved(by, x.end),
-        dur: x.dur,
-        content: x.content,
+    // A document as a retimer shows it.
+    fn retime(self, x: &Document) -> Document
+        requires { timely 359999999 x.now ≡ true }
+        ensures { result ≡ retimed self.by x.now }
+    {
+        Document {
+            begin: Some(due_moment(x) + self.by),
+            end: self.moved(x.end),
+            ..*x
+        }
     }
 }

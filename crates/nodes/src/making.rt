@@ -7,11 +7,11 @@ ghost use Rattle.nodes.specs.Choosing.{chosen_parts, chosen_nodes};
 ghost use Rattle.nodes.specs.Piles.{standing, pile_parts, pile_nodes};
 
 use crate::delay::Adjustment;
-use crate::delay::chosen::Choice;
-use crate::delay::pile::Nodes;
+use crate::delay::pile::{Node, Nodes};
 use streams::stream::Stream;
 
-// A holder over a stream.
+// A holder over a stream. It and the retimer have a trait each: one trait over both is no plainer, since what tells them
+// apart would stand in a ghost member of each kind, and not in the promise of the call.
 pub trait HolderOver<S: Stream>: Stream + Sized {
     fn over(below: S, adjustment: Adjustment) -> Self
         ensures parts { Self.Stream.parts result ≡ delayed (holding adjustment.amount) (S.Stream.parts below) }
@@ -29,7 +29,7 @@ pub trait RetimerOver<S: Stream>: Stream + Sized {
 
 // A chosen node over a stream, or none.
 pub trait ChosenOver<S: Stream>: Stream + Sized {
-    fn over(below: S, choice: Choice) -> Self
+    fn over(below: S, choice: Option<Node>) -> Self
         ensures parts { Self.Stream.parts result ≡ chosen_parts choice (S.Stream.parts below) }
         ensures nodes { Self.Stream.nodes result ≡ chosen_nodes choice (S.Stream.nodes below) }
         ensures bare { Self.Stream.bare result ≡ S.Stream.bare below };

@@ -1,25 +1,37 @@
-use Rattle.std.proofs.Common.{◌≡◌, ℕ, zero, suc, ◌+◌, ◌-◌, ◌<◌, ◌≤◌, true, false, cond, eqb, List, [], ◌∷◌, ◌++◌, length, get_or, take, drop, sym, refl, ap, ◌∙◌, ap₂, arith}
+use Rattle.std.proofs.Common.{◌≡◌, ℕ, zero, suc, ◌+◌, ◌-◌, ◌<◌, ◌≤◌, min, Bool, true, false, cond, eqb, List, [], ◌∷◌, ◌++◌, length, get_or, take, drop, sym, refl, ap, ◌∙◌, ap₂, arith}
+use Rattle.std.specs.List.{position_or_len}
+use Rattle.std.proofs.lemmas.Grind.{common_steps}
 use Rattle.std.proofs.lemmas.List.{at_drop_more, at_drop_all, drop-drop, take_all, length-take-le, append_assoc, append-nil, length-append}
-use Rattle.std.proofs.lemmas.Bool.{eq-eqb, ne_eqb, cond-false, cond_both}
+use Rattle.std.proofs.lemmas.Bool.{ne_eqb, cond-false, cond_both}
 use Rattle.fields.specs.Parts.{Part, rest}
 use Rattle.plan.specs.Pieces.{longer, lines_of, is_blank, onto, between, kept_if, kept}
-use Rattle.plan.specs.Cutting.{line_end_of, left_at, piece_at, empty_at}
+use Rattle.plan.specs.Cutting.{line_end_of, feeds_of, left_at, piece_at, empty_at}
 
--- the scan of a line
-pub line_more : (i : ℕ) (bs : List ℕ) → i < length bs → (get_or bs i 0 ≡ 10 → ⊥) → line_end_of (drop i bs) ≡ suc (line_end_of (drop (i + 1) bs))
-line_more i bs l ne =
-    let e : line_end_of (drop i bs) ≡ cond (eqb (get_or bs i 0) 10) 1 (suc (line_end_of (drop (i + 1) bs))) = at_drop_more line_end_of bs i 0 l in
-    let f = ne_eqb (get_or bs i 0) 10 ne in
-    simp f at e
+-- the first line ends after the first line feed, or where the bytes end
+pub line_is : (bs : List ℕ) → line_end_of bs ≡ min (position_or_len (λ b. eqb b 10) bs + 1) (length bs)
+line_is [] = refl
+line_is (b ∷ bs) = grind (arith, common_steps, line_is bs)
 
-pub line_here : (i : ℕ) (bs : List ℕ) → i < length bs → get_or bs i 0 ≡ 10 → line_end_of (drop i bs) ≡ 1
-line_here i bs l eq =
-    let e : line_end_of (drop i bs) ≡ cond (eqb (get_or bs i 0) 10) 1 (suc (line_end_of (drop (i + 1) bs))) = at_drop_more line_end_of bs i 0 l in
-    let f = eq-eqb (get_or bs i 0) 10 eq in
-    simp f at e
+-- no piece begins in the line feeds in front
+feeds_skipped : (k : ℕ) (bs : List ℕ) → kept (between (k + feeds_of bs) (lines_of (drop (feeds_of bs) bs))) ≡ kept (between k (lines_of bs))
+feeds_skipped k [] = refl
+feeds_skipped k (b ∷ bs) = step (eqb b 10) refl (feeds_skipped (k + 1) bs)
+  where
+    step : (v : Bool) → eqb b 10 ≡ v
+        → kept (between (k + 1 + feeds_of bs) (lines_of (drop (feeds_of bs) bs))) ≡ kept (between (k + 1) (lines_of bs))
+        → kept (between (k + feeds_of (b ∷ bs)) (lines_of (drop (feeds_of (b ∷ bs)) (b ∷ bs)))) ≡ kept (between k (lines_of (b ∷ bs)))
+    step true e ih =
+        let f : feeds_of (b ∷ bs) ≡ suc (feeds_of bs) = simp e (omega arith) in
+        let blank : kept (between k (lines_of (b ∷ bs))) ≡ kept (between (k + 1) (lines_of bs)) = simp e in
+        ap (λ n. kept (between (k + n) (lines_of (drop n (b ∷ bs))))) f ∙ ap (λ j. kept (between j (lines_of (drop (feeds_of bs) bs)))) (omega arith) ∙ ih ∙ sym blank
+    step false e ih =
+        let f : feeds_of (b ∷ bs) ≡ 0 = simp e in
+        ap (λ n. kept (between (k + n) (lines_of (drop n (b ∷ bs))))) f ∙ ap (λ j. kept (between j (lines_of (b ∷ bs)))) (omega arith)
 
-pub line_none : (i : ℕ) (bs : List ℕ) → length bs ≤ i → line_end_of (drop i bs) ≡ 0
-line_none i bs l = at_drop_all line_end_of bs i l
+pub skipped : (from n : ℕ) (input : List ℕ) → n ≡ feeds_of (drop from input) → kept (left_at (from + n) input) ≡ kept (left_at from input)
+skipped from n input e =
+    ap₂ (λ (j : ℕ) (ds : List ℕ). kept (between (from + j) (lines_of ds))) e (ap (λ j. drop (from + j) input) e ∙ sym (drop-drop (feeds_of (drop from input)) from input))
+    ∙ feeds_skipped from (drop from input)
 
 line_le : (bs : List ℕ) → line_end_of bs ≤ length bs
 line_le [] = omega arith

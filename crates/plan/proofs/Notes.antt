@@ -1,7 +1,8 @@
 -- One refused piece more.
 use Rattle.std.proofs.Common.{◌≡◌, ℕ, ◌+◌, ◌-◌, ◌≤◌, List, [], ◌∷◌, ◌++◌, length, take, drop, decimal, sym, refl, ap, ◌∙◌, subst, ap₂, arith}
 use Rattle.std.proofs.lemmas.List.{append_assoc, append-nil, length-append, take-append-drop, drop-drop}
-use Rattle.times.specs.Put.{Puts}
+use Rattle.times.specs.declared.put.BackWriter.{BackWriter}
+use Rattle.times.specs.Put.{put_before, Puts}
 use Rattle.times.proofs.Puts.{put_then, put_middle, put_back}
 use Rattle.fields.specs.Parts.{Part}
 use Rattle.times.specs.Refusals.{number_of}
@@ -20,10 +21,10 @@ pub record Noted (at next : ℕ) (text out out' : List ℕ) : Type 0 where
   pub front : next ≤ length out → take next out' ≡ take at out ++ text
   pub back : drop next out' ≡ drop next out
 
-pub noted : (at next s : ℕ) (text out out' : List ℕ) → next ≡ at + length text → Puts text next out s out' → Noted at next text out out'
-noted at next s text out out' e p = record {
-  front = λ h. ap (take next) p.holds ∙ put_middle at next text out e h;
-  back = ap (drop next) p.holds ∙ put_back next text out;
+pub noted : (at next : ℕ) (text out out' : List ℕ) → next ≡ at + length text → out' ≡ put_before next text out → Noted at next text out out'
+noted at next text out out' e p = record {
+  front = λ h. ap (take next) p ∙ put_middle at next text out e h;
+  back = ap (drop next) p ∙ put_back next text out;
 }
 
 pub run_more : (p p' : Parts) (x : Part) (xs ys : List Part) → xs ≡ x ∷ ys → p' ≡ hand_in_after p x.bytes → handed_in_of p' ys ≡ handed_in_of p xs
@@ -79,23 +80,23 @@ noting_all from at k p xs out whole out₀ e h =
           ∙ append_assoc (take from out₀) whole (drop at out₀);
     }
 
-pub field_then : (end r s n b : ℕ) (text out out' out'' : List ℕ) → Puts text end out r out' → Puts (decimal n ++ (b ∷ [])) r out' s out'' → Puts (decimal n ++ (b ∷ text)) end out s out''
-field_then end r s n b text out out' out'' p q =
-    subst (λ (t : List ℕ). Puts t end out s out'') (append_assoc (decimal n) (b ∷ []) text) (put_then end r s (decimal n ++ (b ∷ [])) text out out' out'' p q)
+pub field_then : (n b : ℕ) (text : List ℕ) (w w' w'' : BackWriter) → Puts text w w' → Puts (decimal n ++ (b ∷ [])) w' w'' → Puts (decimal n ++ (b ∷ text)) w w''
+field_then n b text w w' w'' p q =
+    subst (λ (t : List ℕ). Puts t w w'') (append_assoc (decimal n) (b ∷ []) text) (put_then (decimal n ++ (b ∷ [])) text w w' w'' p q)
 
 -- the four numbers of a refusal, from the last to the first
-pub four_puts : (why : Rejection) (n x end a b c d : ℕ) (o oa ob oc od : List ℕ) → n ≡ number_of why.refusal → x ≡ cause_number_of why.cause
-    → Puts (decimal x ++ (10 ∷ [])) end o a oa → Puts (decimal why.byte ++ (44 ∷ [])) a oa b ob → Puts (decimal why.line ++ (44 ∷ [])) b ob c oc
-    → Puts (decimal n ++ (44 ∷ [])) c oc d od → Puts (rejection_fields why) end o d od
-four_puts why n x end a b c d o oa ob oc od en ex pa pb pc pd =
-    let qa = subst (λ j. Puts (decimal j ++ (10 ∷ [])) end o a oa) ex pa in
-    let qd = subst (λ j. Puts (decimal j ++ (44 ∷ [])) c oc d od) en pd in
-    let qc = field_then end b c why.line 44 _ o ob oc (field_then end a b why.byte 44 _ o oa ob qa pb) pc in
-    field_then end c d (number_of why.refusal) 44 _ o oc od qc qd
+pub four_puts : (why : Rejection) (n x : ℕ) (o a b c d : BackWriter) → n ≡ number_of why.refusal → x ≡ cause_number_of why.cause
+    → Puts (decimal x ++ (10 ∷ [])) o a → Puts (decimal why.byte ++ (44 ∷ [])) a b → Puts (decimal why.line ++ (44 ∷ [])) b c
+    → Puts (decimal n ++ (44 ∷ [])) c d → Puts (rejection_fields why) o d
+four_puts why n x o a b c d en ex pa pb pc pd =
+    let qa = subst (λ j. Puts (decimal j ++ (10 ∷ [])) o a) ex pa in
+    let qd = subst (λ j. Puts (decimal j ++ (44 ∷ [])) c d) en pd in
+    let qc = field_then why.line 44 _ o b c (field_then why.byte 44 _ o a b qa pb) pc in
+    field_then (number_of why.refusal) 44 _ o c d qc qd
 
 -- the five numbers of a line: those four, and the piece's count in front
-pub line_puts : (why : Rejection) (k n x end a b c d e : ℕ) (o oa ob oc od oe : List ℕ) → n ≡ number_of why.refusal → x ≡ cause_number_of why.cause
-    → Puts (decimal x ++ (10 ∷ [])) end o a oa → Puts (decimal why.byte ++ (44 ∷ [])) a oa b ob → Puts (decimal why.line ++ (44 ∷ [])) b ob c oc
-    → Puts (decimal n ++ (44 ∷ [])) c oc d od → Puts (decimal k ++ (44 ∷ [])) d od e oe → Puts (rejection_text k why) end o e oe
-line_puts why k n x end a b c d e o oa ob oc od oe en ex pa pb pc pd pe =
-    field_then end d e k 44 _ o od oe (four_puts why n x end a b c d o oa ob oc od en ex pa pb pc pd) pe
+pub line_puts : (why : Rejection) (k n x : ℕ) (o a b c d e : BackWriter) → n ≡ number_of why.refusal → x ≡ cause_number_of why.cause
+    → Puts (decimal x ++ (10 ∷ [])) o a → Puts (decimal why.byte ++ (44 ∷ [])) a b → Puts (decimal why.line ++ (44 ∷ [])) b c
+    → Puts (decimal n ++ (44 ∷ [])) c d → Puts (decimal k ++ (44 ∷ [])) d e → Puts (rejection_text k why) o e
+line_puts why k n x o a b c d e en ex pa pb pc pd pe =
+    field_then k 44 _ o d e (four_puts why n x o a b c d en ex pa pb pc pd) pe

@@ -4,8 +4,8 @@ use Rattle.std.proofs.lemmas.Bool.{le-leb, lt-leb, cond-true, cond-false}
 use Rattle.std.proofs.lemmas.List.{append_assoc, length-append, length-take-le, length-drop, drop_at}
 use Rattle.std.specs.Fmt.{digits}
 use Rattle.times.specs.Refusals.{wrote, refused, into}
-use Rattle.times.specs.Put.{Puts}
-use Rattle.times.proofs.Puts.{put_then, put_front}
+use Rattle.times.specs.Put.{put_before}
+use Rattle.times.proofs.Puts.{put_front}
 use Rattle.documents.specs.declared.document.Document.{Document}
 use Rattle.streams.specs.Streams.{Parts}
 use Rattle.streams.specs.Tables.{table_parts}
@@ -25,15 +25,14 @@ length_around begin end text out e h =
     ∙ ap₂ (λ (x y : ℕ). x + y) (length-take-le begin out (omega arith)) (length-append text (drop end out) ∙ ap (λ k. length text + k) (length-drop end out))
     ∙ omega arith
 
-pub whole : (w : Window) (begin end r s : ℕ) (p p' : Parts) (refusals out first second third : List ℕ) → p ≡ p' → begin ≡ length (schedule_text_of w p'.shown ++ refusal_names) → end ≡ begin + length refusals → end ≤ length out
-    → first ≡ take begin out ++ (refusals ++ drop end out) → Puts refusal_names begin first r second → Puts (schedule_text_of w p.shown) r second s third
-    → third ≡ plan_text w p'.shown refusals ++ drop (begin + length refusals) out
-whole w begin end r s p p' refusals out first second third f b e h g names sched =
+pub whole : (w : Window) (begin end : ℕ) (p p' : Parts) (refusals out first second : List ℕ) → p ≡ p' → begin ≡ length (schedule_text_of w p'.shown ++ refusal_names) → end ≡ begin + length refusals → end ≤ length out
+    → first ≡ take begin out ++ (refusals ++ drop end out) → second ≡ put_before begin (schedule_text_of w p.shown ++ refusal_names) first
+    → second ≡ plan_text w p'.shown refusals ++ drop (begin + length refusals) out
+whole w begin end p p' refusals out first second f b e h g both =
     let text : List ℕ = schedule_text_of w p'.shown ++ refusal_names in
-    let both = put_then begin r s (schedule_text_of w p.shown) refusal_names first second third names sched in
     let same : schedule_text_of w p.shown ++ refusal_names ≡ text = ap (λ (v : Parts). schedule_text_of w v.shown ++ refusal_names) f in
     let long : length first ≡ length out = ap length g ∙ length_around begin end refusals out e h in
-    both.holds
+    both
     ∙ put_front (schedule_text_of w p.shown ++ refusal_names) first begin (b ∙ ap length (sym same)) (omega arith)
     ∙ ap₂ (λ (x y : List ℕ). x ++ y) same (ap (drop begin) g ∙ drop_at (take begin out) (refusals ++ drop end out) begin (length-take-le begin out (omega arith)))
     ∙ sym (append_assoc text refusals (drop end out))

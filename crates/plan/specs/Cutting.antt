@@ -1,5 +1,6 @@
 -- The words of the scan for pieces, which only inner contracts cite.
-use Rattle.std.specs.Prelude.{ℕ, suc, ◌-◌, cond, List, [], ◌∷◌, take, drop, ◌==◌}
+use Rattle.std.specs.Prelude.{ℕ, suc, ◌-◌, not, cond, List, [], ◌∷◌, take, drop, ◌==◌}
+use Rattle.std.specs.List.{position_or_len}
 use Rattle.fields.specs.Parts.{Part}
 use Rattle.plan.specs.Pieces.{lines_of, between}
 
@@ -7,6 +8,10 @@ use Rattle.plan.specs.Pieces.{lines_of, between}
 abbrev pub line_end_of : List ℕ → ℕ
 line_end_of [] = 0
 line_end_of (b ∷ bs) = cond (b == 10) 1 (suc (line_end_of bs))
+
+-- how many line feeds stand in front
+abbrev pub feeds_of : List ℕ → ℕ
+feeds_of bs = position_or_len (λ b. not (b == 10)) bs
 
 -- what stands between blank lines from a place on
 abbrev pub left_at : ℕ → List ℕ → List Part

@@ -8,36 +8,33 @@ ghost use Rattle.plan.specs.Lines.{rejection_fields, rejection_length};
 
 use fields::fault::Rejection;
 use times::clock::TimeFault;
-use times::put::{digits, put_byte, put_number};
+use times::put::{BackWriter, digits};
 
 // The number of a time cause, 0 where there is none.
 fn cause_number(cause: Option<TimeFault>) -> u8
     ensures { result ≡ cause_number_of cause }
 {
-    match cause {
-        Some(fault) => fault.cause(),
-        None => 0,
-    }
+    cause.map_or(0, |fault| fault.cause())
 }
 
 // Puts a number and the byte after it.
-pub fn put_field(out: &mut [u8], end: usize, number: u64, after: u8) -> usize
-    ensures puts { Puts (decimal number ++ (after ∷ [])) end out.old result out.new }
+pub fn put_field(writer: &mut BackWriter, number: u64, after: u8)
+    ensures puts { Puts (decimal number ++ (after ∷ [])) writer.old writer.new }
     ensures few { length (decimal number ++ (after ∷ [])) ≤ 21 }
 {
-    let start = put_byte(out, end, after);
-    put_number(out, start, number)
+    writer.put_byte(after);
+    writer.put_number(number);
 }
 
 // Puts the four numbers of a refused text and the line's end: refusal, line, byte and cause.
-pub fn put_rejection(out: &mut [u8], end: usize, why: Rejection) -> usize
-    ensures puts { Puts (rejection_fields why) end out.old result out.new }
+pub fn put_rejection(writer: &mut BackWriter, why: Rejection)
+    ensures puts { Puts (rejection_fields why) writer.old writer.new }
     ensures few { length (rejection_fields why) ≤ 84 }
 {
-    let a = put_field(out, end, cause_number(why.cause) as u64, b'\n');
-    let b = put_field(out, a, why.byte as u64, b',');
-    let c = put_field(out, b, why.line as u64, b',');
-    put_field(out, c, why.refusal.number() as u64, b',')
+    put_field(writer, cause_number(why.cause) as u64, b'\n');
+    put_field(writer, why.byte as u64, b',');
+    put_field(writer, why.line as u64, b',');
+    put_field(writer, why.refusal.number() as u64, b',');
 }
 
 // How long the line of a refused piece is.

@@ -9,13 +9,13 @@ use std::io::Read;
 pub fn read_input<R: Read>(source: &mut R, buffer: &mut [u8]) -> io::Result<usize>
     ensures { IfOk result (λ n. n ≤ length buffer.old) }
 {
-    let mut n = 0;
-    while n < buffer.len() {
-        let k = source.read(&mut buffer[n..])?;
-        if k == 0 {
-            break;
+    let room = buffer.len();
+    let mut rest = buffer;
+    while !rest.is_empty() {
+        match source.read(rest)? {
+            0 => break,
+            n => rest = &mut rest[n..],
         }
-        n += k;
     }
-    Ok(n)
+    Ok(room - rest.len())
 }

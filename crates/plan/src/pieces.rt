@@ -5,7 +5,7 @@ ghost use Rattle.std.specs.Prelude.{◌≤◌, length};
 pub mod cutting;
 
 // A piece: a part of the input that no blank line interrupts, with its offset.
-#[derive(Clone, Copy)]
+#[derive(Clone, Copy, Debug, PartialEq, Eq)]
 pub struct Piece<'a> {
     pub bytes: &'a [u8],
     pub offset: usize,

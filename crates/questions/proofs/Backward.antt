@@ -1,9 +1,7 @@
 -- A walk from the last document to the first lists what the definition lists.
-use Rattle.std.proofs.Common.{◌≡◌, ℕ, zero, suc, ◌+◌, ◌<◌, ◌≤◌, min, Bool, true, false, cond, ltb, List, [], ◌∷◌, ◌++◌, length, get_or, take, Some, None, Option, sym, refl, ap, ◌∙◌, ap₂, arith}
-use Rattle.std.specs.List.{slice_get}
-use Rattle.std.proofs.lemmas.List.{take_more, take_all, append-nil, append_assoc}
-use Rattle.std.proofs.lemmas.Option.{slice_get-get_or}
-use Rattle.std.proofs.lemmas.Bool.{lt-ltb, le-ltb, cond-true, cond-false}
+use Rattle.std.proofs.Common.{◌≡◌, ℕ, suc, ◌<◌, ◌≤◌, min, Bool, true, false, cond, ltb, List, [], ◌∷◌, ◌++◌, length, Some, None, Option, sym, refl, ap, ◌∙◌, ap₂, arith}
+use Rattle.std.proofs.lemmas.List.{append-nil, append_assoc}
+use Rattle.std.proofs.lemmas.Bool.{lt-ltb, le-ltb, cond-true, cond-false, cond_both}
 use Rattle.documents.specs.declared.document.Document.{Document}
 use Rattle.streams.specs.Streams.{orderly}
 use Rattle.streams.specs.Fronts.{orderly_facts}
@@ -23,19 +21,20 @@ intervals_push w l (e ∷ ds) d =
     ap₂ (λ (n : ℕ) (ls : List Interval). interval_before_of w n e ++ ls) (least_push w l ds d) (intervals_push w l ds d)
     ∙ sym (append_assoc (interval_before_of w (least_of w (min (resolved_begin_of w d) l) ds) e) (intervals_before w (min (resolved_begin_of w d) l) ds) (interval_before_of w l d))
 
--- one document back
-pub intervals_back : (w : Window) (l m : ℕ) (ds : List Document) (i : ℕ) (d : Document) → Some d ≡ slice_get ds i → m ≡ min (resolved_begin_of w d) l
-    → intervals_before w l (take (i + 1) ds) ≡ intervals_before w m (take i ds) ++ interval_before_of w l d
-intervals_back w l m ds i d e s =
-    let h : i < length ds = within ds i e in
-    let g : get_or ds i d ≡ d = (let n = slice_get-get_or ds i d h in cc) in
-    let t : take (i + 1) ds ≡ take i ds ++ d ∷ [] = take_more ds i d h ∙ ap (λ (x : Document). take i ds ++ x ∷ []) g in
-    ap (intervals_before w l) t ∙ intervals_push w l (take i ds) d ∙ ap (λ n. intervals_before w n (take i ds) ++ interval_before_of w l d) (sym s)
-  where
-    within : (ds : List Document) (i : ℕ) → Some d ≡ slice_get ds i → i < length ds
-    within [] i e = let z : ◌≡◌ {A = ℕ} 0 1 = cc in absurd (omega arith)
-    within (x ∷ ds) zero e = omega arith
-    within (x ∷ ds) (suc i) e = omega (arith, within ds i e)
+-- one document back: the interval that it gives, if any, is the last
+pub intervals_back : (w : Window) (l m b : ℕ) (ds es : List Document) (d : Document) (is js : List Interval)
+    → intervals_before w l ds ≡ js → ds ≡ es ++ d ∷ [] → b ≡ resolved_begin_of w d → m ≡ min b l → is ≡ interval_before_of w l d → js ≡ intervals_before w m es ++ is
+intervals_back w l m b ds es d is js h e f s i =
+    sym h ∙ ap (intervals_before w l) e ∙ intervals_push w l es d ∙ ap₂ (λ n (ks : List Interval). intervals_before w n es ++ ks) (sym (s ∙ ap (λ n. min n l) f)) (sym i)
+
+-- at most one interval for each document
+pub intervals_few : (w : Window) (l : ℕ) (ds : List Document) → length (intervals_before w l ds) ≤ length ds
+intervals_few w l [] = omega arith
+intervals_few w l (d ∷ ds) =
+    let n = least_of w l ds in
+    cond_both (ltb (resolved_begin_of w d) (min (own_end_of w d) n)) (cut_interval w n d ∷ []) [] (λ (is : List Interval). length (is ++ intervals_before w l ds) ≤ suc (length ds))
+    (λ _. omega (arith, intervals_few w l ds))
+    (λ _. omega (arith, intervals_few w l ds))
 
 -- each number is above n
 unfoldable pub Above : ℕ → List Document → Type 0
@@ -103,17 +102,6 @@ rising w lim n a (d ∷ ds) h =
     (listed_after w d ds ds up ∙ rising w lim d.number d.available ds f.rest)
     ∙ cond_append (ltb (resolved_begin_of w d) (min (own_end_of w d) (least_of w w.end ds))) (cut_interval w (least_of w w.end ds) d) (intervals_before w w.end ds)
 
--- before a document that is not there, nothing is left out
-pub intervals_past : (w : Window) (l : ℕ) (ds : List Document) (p i : ℕ) → None ≡ slice_get ds i → p ≡ i + 1 → intervals_before w l (take p ds) ≡ intervals_before w l (take i ds)
-intervals_past w l ds p i e s =
-    let h : length ds ≤ i = past ds i e in
-    ap (intervals_before w l) (take_all p ds (omega arith) ∙ sym (take_all i ds h))
-  where
-    past : (ds : List Document) (i : ℕ) → None ≡ slice_get ds i → length ds ≤ i
-    past [] i e = omega arith
-    past (d ∷ ds) zero e = let z : ◌≡◌ {A = ℕ} 0 1 = cc in absurd (omega arith)
-    past (d ∷ ds) (suc i) e = omega (arith, past ds i e)
-
 -- the whole walk
-pub schedule_walk : (w : Window) (lim l : ℕ) (ds : List Document) (n : ℕ) → orderly lim 0 0 ds ≡ true → n ≡ length ds → l ≡ w.end → intervals_before w l (take n ds) ≡ schedule_of w ds
-schedule_walk w lim l ds n h e f = ap₂ (λ (k : ℕ) (xs : List Document). intervals_before w k xs) f (take_all n ds (omega arith)) ∙ sym (rising w lim 0 0 ds h)
+pub schedule_walk : (w : Window) (lim l : ℕ) (ds es : List Document) → orderly lim 0 0 es ≡ true → ds ≡ es → l ≡ w.end → intervals_before w l ds ≡ schedule_of w es
+schedule_walk w lim l ds es h e f = ap₂ (λ (k : ℕ) (xs : List Document). intervals_before w k xs) f e ∙ sym (rising w lim 0 0 es h)

@@ -39,7 +39,7 @@ found_none : (p : Document → Bool) (ds : List Document) → ((e : Document) �
 found_none p [] h = refl
 found_none p (e ∷ ds) h = rw (h e (inl refl)) (found_none p ds (λ x m. h x (inr m)))
 
-end_own : (w : Window) (shown : List Document) (d : Document) → resolved_end_of w shown d ≤ own_end_of w d
+pub end_own : (w : Window) (shown : List Document) (d : Document) → resolved_end_of w shown d ≤ own_end_of w d
 end_own w [] d = omega arith
 end_own w (e ∷ shown) d =
     cond_both (ltb d.number e.number) _ _ (λ r. r ≤ own_end_of w d) (λ _. omega (arith, end_own w shown d)) (λ _. end_own w shown d)

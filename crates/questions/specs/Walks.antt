@@ -1,5 +1,5 @@
 -- The words of the walk from the last document to the first, which only inner contracts cite.
-use Rattle.std.specs.Prelude.{ℕ, min, cond, List, [], ◌∷◌, ◌++◌, Some, None, Option, nat_lt}
+use Rattle.std.specs.Prelude.{ℕ, min, cond, List, [], ◌∷◌, ◌++◌, nat_lt}
 use Rattle.documents.specs.declared.document.Document.{Document}
 use Rattle.questions.specs.declared.window.Window.{Window}
 use Rattle.questions.specs.declared.schedule.Interval.{Interval}
@@ -21,8 +21,3 @@ interval_before_of w l d = cond (nat_lt (resolved_begin_of w d) (min (own_end_of
 abbrev pub intervals_before : Window → ℕ → List Document → List Interval
 intervals_before w l [] = []
 intervals_before w l (d ∷ ds) = interval_before_of w (least_of w l ds) d ++ intervals_before w l ds
-
--- what an option holds, as a list
-abbrev pub held : {A : Type 0} → Option A → List A
-held None = []
-held (Some x) = x ∷ []

@@ -12,4 +12,5 @@
 
 pub mod asking;
 pub mod schedule;
+mod shown;
 pub mod window;

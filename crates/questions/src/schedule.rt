@@ -2,22 +2,28 @@
 //
 // The documents are walked from the last to the first, since what cuts a document short is the least
 // resolved begin among those after it: one number carries it, so neither memory nor a second look at a
-// document is needed. Outputs are filled from the back.
+// document is needed. Outputs are filled from the back. Stream and window are two parameters, as they are of the questions.
 
-ghost use Rattle.std.specs.Prelude.{◌≡◌, ◌-◌, ◌≤◌, min, ◌++◌, length, take, drop};
+ghost use Rattle.std.specs.Prelude.{◌≡◌, ◌≤◌, List, length};
+ghost use Rattle.std.specs.Iterator.{at_most};
+ghost use Rattle.std.specs.Option.{option_to_list};
+ghost use Rattle.std.specs.Map.Iter.{TakesLast, GivesInReverse};
 ghost use Rattle.times.specs.Refusals.{outcome, into};
+ghost use Rattle.questions.specs.declared.schedule.Interval.{Interval};
 ghost use Rattle.questions.specs.Schedules.{schedule_of, Timetable};
-ghost use Rattle.questions.specs.Walks.{interval_before_of, intervals_before, held};
+ghost use Rattle.questions.specs.Walks.{interval_before_of, intervals_before};
 
 pub mod text;
 
+use crate::shown::Shown;
 use crate::window::Window;
 use documents::document::Document;
+use std::marker::Model;
 use streams::stream::Stream;
 use times::refusal::Refusal;
 
 // When one document is on screen.
-#[derive(Clone, Copy)]
+#[derive(Clone, Copy, Debug, PartialEq, Eq)]
 pub struct Interval {
     pub number: u32,
     pub begin: u32,
@@ -25,92 +31,67 @@ pub struct Interval {
     pub content: u32,
 }
 
-// How far a walk has come: how many documents are still to come, and the least resolved begin of those
-// it has passed.
-#[derive(Clone, Copy)]
-pub struct Mark {
-    place: usize,
+// The interval of a document whose followers begin at `least` or later, if it is listed.
+fn interval_before(window: Window, least: u32, document: &Document) -> Option<Interval>
+    ensures { option_to_list result ≡ interval_before_of window least document.now }
+{
+    let begin = window.resolved_begin(document);
+    let end = window.own_end(document).min(least);
+    (begin < end).then_some(Interval {
+        number: document.number,
+        begin,
+        end,
+        content: document.content,
+    })
+}
+
+// A walk over the documents of a stream, from the last to the first. `least` is the least resolved begin of
+// those it has passed, or the window's end. A contract sees the intervals still to come, by rising number;
+// the walk hands out the last of them first.
+#[derive(Drop)]
+pub(crate) struct Walk<'a, S: Stream> {
+    documents: Shown<'a, S>,
+    window: Window,
     least: u32,
 }
 
-impl Mark {
-    // Before the last document: all intervals are still to come.
-    fn start<S: Stream>(stream: &S, window: Window) -> Mark
-        ensures intervals { intervals_before window result.least (take result.place (S.Stream.parts stream.now).shown) ≡ schedule_of window (S.Stream.parts stream.now).shown }
-        ensures few { result.place ≤ 4096 }
+impl<'a, S: Stream> Model for Walk<'a, S> {
+    ghost Value = { List Interval };
+
+    ghost view = { λ a. intervals_before a.window a.least a.documents };
+}
+
+impl<'a, S: Stream> Walk<'a, S> {
+    pub(crate) fn over(stream: &'a S, window: Window) -> Walk<'a, S>
+        ensures intervals { result ≡ schedule_of window (S.Stream.parts stream.now).shown }
+        ensures few { length result ≤ 4096 }
+        ensures runs { GivesInReverse Interval }
     {
-        Mark {
-            place: stream.count(),
+        Walk {
+            documents: Shown::of(stream),
+            window,
             least: window.end(),
         }
     }
 }
 
-// The interval of a document whose followers begin at `least` or later, if it is listed.
-fn interval_before(window: Window, least: u32, document: &Document) -> Option<Interval>
-    ensures { held result ≡ interval_before_of window least document.now }
-{
-    let begin = window.resolved_begin(document);
-    let end = window.own_end(document).min(least);
-    if begin < end {
-        Some(Interval {
-            number: document.number,
-            begin,
-            end,
-            content: document.content,
-        })
-    } else {
-        None
-    }
-}
+impl<'a, S: Stream> Iterator for Walk<'a, S> {
+    type Item = Interval;
 
-// One document back, with its interval if it is listed.
-fn step_back<S: Stream>(stream: &S, window: Window, mark: &mut Mark) -> Option<Interval>
-    ensures intervals { intervals_before window mark.old.least (take mark.old.place (S.Stream.parts stream.now).shown) ≡ intervals_before window mark.new.least (take mark.new.place (S.Stream.parts stream.now).shown) ++ held result }
-    ensures place { mark.new.place ≡ mark.old.place - 1 }
-{
-    if mark.place == 0 {
-        return None;
-    }
-    mark.place -= 1;
-    let Some(document) = stream.document_at(mark.place) else {
-        return None;
-    };
-    let interval = interval_before(window, mark.least, &document);
-    mark.least = window.resolved_begin(&document).min(mark.least);
-    interval
-}
+    ghost next_gives = { TakesLast (λ i. i) };
 
-// How many documents the schedule lists.
-fn listed_count<S: Stream>(stream: &S, window: Window) -> usize
-    ensures { result ≡ length (schedule_of window (S.Stream.parts stream.now).shown) }
-{
-    let mut mark = Mark::start(stream, window);
-    let mut n = 0;
-    while mark.place > 0 {
-        match step_back(stream, window, &mut mark) {
-            Some(_) => n += 1,
-            None => {}
-        }
-    }
-    n
-}
+    ghost remaining = { λ s. at_most (length s) };
 
-// Fills the first `n` records, from the last of them to the first.
-fn fill<S: Stream>(stream: &S, window: Window, n: usize, out: &mut [Interval])
-    requires { (n ≡ length (schedule_of window (S.Stream.parts stream.now).shown)) × (n ≤ length out.old) }
-    ensures { out.new ≡ schedule_of window (S.Stream.parts stream.now).shown ++ drop n out.old }
-{
-    let mut mark = Mark::start(stream, window);
-    let mut free = n;
-    while mark.place > 0 {
-        match step_back(stream, window, &mut mark) {
-            Some(interval) => {
-                free -= 1;
-                out[free] = interval;
+    fn next(&mut self) -> Option<Interval> {
+        // no `find_map`: a proof knows nothing of `least` once a closure has changed it
+        while let Some(document) = self.documents.next_back() {
+            let interval = interval_before(self.window, self.least, &document);
+            self.least = self.window.resolved_begin(&document).min(self.least);
+            if interval.is_some() {
+                return interval;
             }
-            None => {}
         }
+        None
     }
 }
 
@@ -123,10 +104,13 @@ pub fn schedule<S: Stream>(
     ensures lists { outcome result out.new ≡ into (schedule_of window (S.Stream.parts stream.now).shown) out.old }
     ensures laws { Timetable window (S.Stream.parts stream.now).shown (schedule_of window (S.Stream.parts stream.now).shown) }
 {
-    let n = listed_count(stream, window);
+    let n = Walk::over(stream, window).count();
     if out.len() < n {
         return Err(Refusal::OutputTooShort);
     }
-    fill(stream, window, n, out);
+    for (place, interval) in (0..n).rev().zip(Walk::over(stream, window)) {
+        // from the last record to the first, by place: of what an adapter of `iter_mut` lends no proof knows what it holds
+        out[place] = interval;
+    }
     Ok(n)
 }

@@ -1,16 +1,16 @@
 // Windows, and a document's own times in one.
 
-ghost use Rattle.std.specs.Prelude.{◌≡◌, ◌+◌, ◌<◌};
-ghost use Rattle.streams.specs.Streams.{due};
+ghost use Rattle.std.specs.Prelude.{◌≡◌};
 ghost use Rattle.questions.specs.Resolved.{told_window, window_for, resolved_begin_of, earlier_of, plus, own_end_of};
 
 use documents::document::Document;
+use streams::due::due_moment;
 use times::clock::LAST_MOMENT;
 use times::refusal::Refusal;
 
 // A stretch of time that begins before it ends, and ends by the last moment. `Window::new` is the only
 // way to one.
-#[derive(Clone, Copy)]
+#[derive(Clone, Copy, Debug, PartialEq, Eq)]
 pub struct Window {
     begin: u32,
     end: u32,
@@ -56,36 +56,17 @@ impl Window {
     }
 }
 
-// The later of a document's available and begin.
-fn due_moment(document: &Document) -> u32
-    ensures { result ≡ due document.now }
-{
-    match document.begin {
-        Some(begin) => document.available.max(begin),
-        None => document.available,
-    }
-}
-
+// The line of `cut_to` in documents: one for both is no plainer, since `map_or` is the whole of it and each cites its own
+// definition.
 fn earlier(moment: u32, other: Option<u32>) -> u32
     ensures { result ≡ earlier_of moment other }
 {
-    match other {
-        Some(other) => moment.min(other),
-        None => moment,
-    }
+    other.map_or(moment, |other| moment.min(other))
 }
 
 // A moment, or an earlier one that lies `dur` after `from`.
 fn ended_after(moment: u32, from: u32, dur: Option<u32>) -> u32
     ensures { result ≡ earlier_of moment (plus from dur) }
 {
-    let Some(dur) = dur else {
-        return moment;
-    };
-    let sum = from as u64 + dur as u64;
-    if sum < moment as u64 {
-        sum as u32
-    } else {
-        moment
-    }
+    earlier(moment, dur.map(|dur| from.saturating_add(dur)))
 }

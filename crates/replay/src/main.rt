@@ -1,17 +1,24 @@
 // `replay`: runs a recorded feed through a stack of delay nodes and prints what the core answers.
 //
-// `script` reads the lines, `running` builds the stack and sends the calls, `output` writes the replies.
-// Every call goes through `stacks::sending::send`, to the stack and to a second stream beside it.
+// `running` reads the script, builds its stack and sends its calls, one after another; `reading` has the script's line in
+// hand; `beside` sends each call by `stacks::sending::send`, to the stack and to a second stream beside it; `output` keeps
+// what is printed.
+//
+// A reader must believe, in specs/: `read_entries_of`, `read_nodes_of` and `read_calls_of` (Readings: what a script has), and
+// `replay_of` (Replays: what is printed of it).
 
 #![tactic(auto)]
 
+mod beside;
 mod output;
+mod reading;
 mod running;
-mod script;
+#[cfg(test)]
+mod shown;
 
 use plan::input::read_input;
 use running::replay;
-use script::SCRIPT_LIMIT;
+use scripts::lines::reading::SCRIPT_LIMIT;
 use std::io;
 use std::io::Print;
 

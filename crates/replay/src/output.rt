@@ -1,110 +1,121 @@
 // What is printed, kept until the end.
 
-use fields::fault::Rejection;
+ghost use Rattle.std.specs.Prelude.{◌≡◌, ◌+◌, ◌<◌, ◌≤◌, [], ◌++◌, length, drop, is_ok, if◌then◌else◌, OnOk};
+ghost use Rattle.times.specs.Refusals.{refusal_number};
+ghost use Rattle.stacks.specs.Calls.{told_reply};
+ghost use Rattle.scripts.specs.Printing.{reply_text, node_text, unreadable_text};
+
+use scripts::printing::{put_node, put_reply, put_unreadable};
 use stacks::calls::Reply;
 use std::alloc::{AllocError, Global};
-use times::put::put_number;
+use times::put::BackWriter;
 use times::refusal::Refusal;
 
-// The longest number has 20 digits.
-const MOST_DIGITS: usize = 20;
+// No line of a reply is longer.
+const LINE_ROOM: usize = 128;
 
+// The number of a refusal, 0 where there is none.
+fn number_of(refused: Option<Refusal>) -> u8
+    ensures { result ≡ refusal_number refused }
+{
+    refused.map_or(0, Refusal::number)
+}
+
+// The lines of a node's or a call's reply are numbered from 1 under their heading; `count` of them were written.
 #[derive(Drop)]
 pub struct Output {
     bytes: Vec<u8>,
+    count: usize,
+    // each of them has bytes, so that it can be counted
+    ghost few: { count ≤ length bytes.items },
 }
 
 impl Output {
-    pub fn new(heap: Global) -> Output {
+    pub fn new(heap: Global) -> Output
+        ensures { result.bytes.items ≡ [] }
+    {
         Output {
             bytes: Vec::new(heap),
+            count: 0,
         }
     }
 
-    pub fn into_bytes(self) -> Vec<u8> {
-        let Output { bytes } = self;
+    pub fn into_bytes(self) -> Vec<u8>
+        ensures { result.items ≡ self.bytes.items }
+    {
+        let Output { bytes, .. } = self;
         bytes
     }
 
-    pub fn text(&mut self, text: &[u8]) -> Result<(), AllocError> {
+    pub fn text(&mut self, text: &[u8]) -> Result<(), AllocError>
+        ensures { self.new.bytes.items ≡ (if is_ok result then self.old.bytes.items ++ text.now else self.old.bytes.items) }
+    {
         self.bytes.extend_from_slice(text)
     }
 
-    pub fn number(&mut self, number: u64) -> Result<(), AllocError> {
-        let mut digits = [0u8; 20];
-        let start = put_number(&mut digits, MOST_DIGITS, number);
-        self.bytes.extend_from_slice(&digits[start..])
+    // A heading, under which the lines are numbered anew.
+    pub fn heading(&mut self, text: &[u8]) -> Result<(), AllocError>
+        ensures text { self.new.bytes.items ≡ (if is_ok result then self.old.bytes.items ++ text.now else self.old.bytes.items) }
+        ensures count { OnOk result (self.new.count ≡ 0) }
+    {
+        self.text(text)?;
+        self.count = 0;
+        Ok(())
     }
 
-    // A count, a comma and a number, on a line.
-    pub fn numbered(&mut self, count: usize, number: u64) -> Result<(), AllocError> {
-        self.number(count as u64)?;
-        self.text(b",")?;
-        self.number(number)?;
-        self.text(b"\n")
+    // What a line holds from a place on.
+    fn rest(&mut self, line: &[u8], start: usize) -> Result<(), AllocError>
+        requires { start ≤ length line.now }
+        ensures text { self.new.bytes.items ≡ (if is_ok result then self.old.bytes.items ++ drop start line.now else self.old.bytes.items) }
+        ensures count { self.new.count ≡ self.old.count }
+    {
+        self.bytes.extend_from_slice(&line[start..])
     }
 
-    pub fn unreadable(&mut self, line: usize) -> Result<(), AllocError> {
-        self.text(b"unreadable,")?;
-        self.number(line as u64)?;
-        self.text(b"\n")
+    // The same of a numbered line.
+    fn numbered(&mut self, line: &[u8], start: usize) -> Result<(), AllocError>
+        requires { start < length line.now }
+        ensures text { self.new.bytes.items ≡ (if is_ok result then self.old.bytes.items ++ drop start line.now else self.old.bytes.items) }
+        ensures count { OnOk result (self.new.count ≡ self.old.count + 1) }
+    {
+        self.rest(line, start)?;
+        self.count += 1;
+        Ok(())
     }
 
-    fn marked(&mut self, settled: bool) -> Result<(), AllocError> {
-        self.text(if settled { b",settled\n" } else { b",open\n" })
+    // The line of a node's reply: why it was refused, if it was. This and the next two are alike but for what is put; one for
+    // all, given a closure that puts, is no plainer, since it could promise only what the closure may put.
+    pub fn node(&mut self, refused: Option<Refusal>) -> Result<(), AllocError>
+        ensures text { self.new.bytes.items ≡ (if is_ok result then self.old.bytes.items ++ node_text (self.old.count + 1) (refusal_number refused) else self.old.bytes.items) }
+        ensures count { OnOk result (self.new.count ≡ self.old.count + 1) }
+    {
+        let mut line = [0u8; LINE_ROOM];
+        let mut writer = BackWriter::new(&mut line, LINE_ROOM);
+        put_node(&mut writer, self.count + 1, number_of(refused));
+        let start = writer.begin();
+        self.numbered(&line, start)
     }
 
-    // A hand-in's four numbers.
-    fn rejected(&mut self, why: Rejection) -> Result<(), AllocError> {
-        self.number(why.refusal.number() as u64)?;
-        self.text(b",")?;
-        self.number(why.line as u64)?;
-        self.text(b",")?;
-        self.number(why.byte as u64)?;
-        self.text(b",")?;
-        let cause = match why.cause {
-            Some(fault) => fault.cause(),
-            None => 0,
-        };
-        self.number(cause as u64)?;
-        self.text(b"\n")
+    // The line of a call's reply.
+    pub fn reply(&mut self, handed_in: bool, reply: Reply) -> Result<(), AllocError>
+        ensures text { self.new.bytes.items ≡ (if is_ok result then self.old.bytes.items ++ reply_text (self.old.count + 1) handed_in (told_reply reply) else self.old.bytes.items) }
+        ensures count { OnOk result (self.new.count ≡ self.old.count + 1) }
+    {
+        let mut line = [0u8; LINE_ROOM];
+        let mut writer = BackWriter::new(&mut line, LINE_ROOM);
+        put_reply(&mut writer, self.count + 1, handed_in, reply);
+        let start = writer.begin();
+        self.numbered(&line, start)
     }
 
-    fn shows(&mut self, shown: Option<(u32, u32)>, settled: bool) -> Result<(), AllocError> {
-        match shown {
-            Some((number, content)) => {
-                self.number(number as u64)?;
-                self.text(b",")?;
-                self.number(content as u64)?;
-            }
-            None => self.text(b"none")?,
-        }
-        self.marked(settled)
-    }
-
-    fn lasts(&mut self, begin: u32, end: u32, settled: bool) -> Result<(), AllocError> {
-        self.number(begin as u64)?;
-        self.text(b",")?;
-        self.number(end as u64)?;
-        self.marked(settled)
-    }
-
-    fn refused(&mut self, refusal: Refusal) -> Result<(), AllocError> {
-        self.number(refusal.number() as u64)?;
-        self.text(b"\n")
-    }
-
-    // A call's reply, after its count. A hand-in that was taken has four numbers too.
-    pub fn reply(&mut self, count: usize, reply: Reply, handed_in: bool) -> Result<(), AllocError> {
-        self.number(count as u64)?;
-        self.text(b",")?;
-        match reply {
-            Reply::Done => self.text(if handed_in { b"0,0,0,0\n" } else { b"0\n" }),
-            Reply::Refused(refusal) => self.refused(refusal),
-            Reply::NotHandedIn(why) => self.rejected(why),
-            Reply::DoesNotTake => self.text(b"\n"),
-            Reply::Shows(shown, settled) => self.shows(shown, settled),
-            Reply::Lasts(begin, end, settled) => self.lasts(begin, end, settled),
-        }
+    // The line that ended the reading.
+    pub fn unreadable(&mut self, number: usize) -> Result<(), AllocError>
+        ensures { self.new.bytes.items ≡ (if is_ok result then self.old.bytes.items ++ unreadable_text number else self.old.bytes.items) }
+    {
+        let mut line = [0u8; LINE_ROOM];
+        let mut writer = BackWriter::new(&mut line, LINE_ROOM);
+        put_unreadable(&mut writer, number);
+        let start = writer.begin();
+        self.rest(&line, start)
     }
 }

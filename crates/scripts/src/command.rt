@@ -16,10 +16,10 @@ use streams::prepared::Entry;
 // The most records that a live table may be handed.
 const MOST_RECORDS: u32 = 65_536;
 
-const COMMA: u8 = 44;
+const COMMA: u8 = b',';
 
 // What the first line may be.
-#[derive(Clone, Copy)]
+#[derive(Clone, Copy, Debug, PartialEq, Eq)]
 pub enum Start {
     // a live table over so many records
     Live(u32),
@@ -27,7 +27,7 @@ pub enum Start {
 }
 
 // What every other line may be. Questions have a window's begin and end first.
-#[derive(Clone, Copy)]
+#[derive(Clone, Copy, Debug, PartialEq, Eq)]
 pub enum Command {
     Entry(Entry),
     Holder(u32),
@@ -44,11 +44,7 @@ fn number(fields: &mut Reader) -> Option<u32>
     ensures value { result ≡ number_in (first (left fields.old)) }
     ensures rest { left fields.new ≡ rest (left fields.old) }
 {
-    let field = fields.next()?;
-    match read_number(0, field.bytes) {
-        Ok(n) => Some(n),
-        Err(_) => None,
-    }
+    read_number(0, fields.next()?.bytes).ok()
 }
 
 // A number in the next field, which may be blank.
@@ -60,34 +56,26 @@ fn optional(fields: &mut Reader) -> Option<Option<u32>>
     if field.bytes.is_empty() {
         return Some(None);
     }
-    match read_number(0, field.bytes) {
-        Ok(n) => Some(Some(n)),
-        Err(_) => None,
-    }
+    read_number(0, field.bytes).ok().map(Some)
 }
 
 // No field at all.
 fn none(fields: &mut Reader) -> Option<()>
     ensures { result ≡ none_in (left fields.old) }
 {
-    match fields.next() {
-        Some(_) => None,
-        None => Some(()),
-    }
+    fields.next().is_none().then_some(())
 }
 
 // One number and no field after it.
 fn one(fields: &mut Reader) -> Option<u32>
     ensures { result ≡ one_in (left fields.old) }
 {
-    let n = number(fields);
-    match fields.next() {
-        Some(_) => None,
-        None => n,
-    }
+    let n = number(fields)?;
+    none(fields)?;
+    Some(n)
 }
 
-// Three numbers and no field after them.
+// Three numbers and no field after them. No `fill`: a number is read where its field is, so nothing keeps the fields.
 fn three(fields: &mut Reader) -> Option<(u32, u32, u32)>
     ensures { result ≡ three_in (left fields.old) }
 {
@@ -130,30 +118,29 @@ fn document(fields: &mut Reader) -> Option<Document>
 fn worded(word: &[u8], fields: &mut Reader) -> Option<Command>
     ensures { result ≡ said_by word.now (left fields.old) }
 {
+    // a chain of tests: of a `match` on the words the proof did not close, since `search` gave up at the longer ones
     if is_text(word, b"entry") {
-        let (begin, end, content) = three(fields)?;
-        Some(Command::Entry(Entry {
-            begin,
-            end,
-            content,
-        }))
+        three(fields).map(|(begin, end, content)| {
+            Command::Entry(Entry {
+                begin,
+                end,
+                content,
+            })
+        })
     } else if is_text(word, b"holder") {
-        Some(Command::Holder(one(fields)?))
+        one(fields).map(Command::Holder)
     } else if is_text(word, b"retimer") {
-        Some(Command::Retimer(one(fields)?))
+        one(fields).map(Command::Retimer)
     } else if is_text(word, b"take") {
-        Some(Command::Take(document(fields)?))
+        document(fields).map(Command::Take)
     } else if is_text(word, b"tick") {
-        Some(Command::Tick(one(fields)?))
+        one(fields).map(Command::Tick)
     } else if is_text(word, b"active") {
-        let (begin, end, moment) = three(fields)?;
-        Some(Command::Active(begin, end, moment))
+        three(fields).map(|(begin, end, moment)| Command::Active(begin, end, moment))
     } else if is_text(word, b"interval") {
-        let (begin, end, sequence) = three(fields)?;
-        Some(Command::Interval(begin, end, sequence))
+        three(fields).map(|(begin, end, number)| Command::Interval(begin, end, number))
     } else if is_text(word, b"text") {
-        none(fields)?;
-        Some(Command::Text)
+        none(fields).map(|()| Command::Text)
     } else {
         None
     }
@@ -163,21 +150,20 @@ fn worded(word: &[u8], fields: &mut Reader) -> Option<Command>
 fn start_worded(word: &[u8], fields: &mut Reader) -> Option<Start>
     ensures { result ≡ start_by word.now (left fields.old) }
 {
+    // a chain of tests, as for the other lines
     if is_text(word, b"live") {
-        let records = one(fields)?;
-        if records > MOST_RECORDS {
-            return None;
-        }
-        Some(Start::Live(records))
+        one(fields)
+            .filter(|records| *records <= MOST_RECORDS)
+            .map(Start::Live)
     } else if is_text(word, b"prepared") {
-        none(fields)?;
-        Some(Start::Prepared)
+        none(fields).map(|()| Start::Prepared)
     } else {
         None
     }
 }
 
-// What the first line of a script says.
+// What the first line of a script says. It and the next function are one but for the words; a closure for the words is no
+// plainer, since the promise would be of whatever the closure may answer.
 pub fn read_start(line: Line) -> Option<Start>
     ensures { result ≡ start_of (line_of line.entry) }
 {

@@ -9,8 +9,8 @@ pub mod reading;
 use fields::reader::Reader;
 
 // A line without its line feed: where it begins, its number from 1, whether it has its line feed, and where
-// the next line begins.
-#[derive(Clone, Copy)]
+// the next line begins. Without a line feed a line still has its bytes, so `ended` is no `Option` of them.
+#[derive(Clone, Copy, Debug, PartialEq, Eq)]
 pub struct Line<'a> {
     pub bytes: &'a [u8],
     pub offset: usize,

@@ -7,94 +7,95 @@ ghost use Rattle.scripts.specs.Printing.{mark_text, done_text, shown_text, lasts
 
 use plan::columns::{put_field, put_rejection};
 use stacks::calls::Reply;
-use times::put::put_bytes;
+use times::put::BackWriter;
 
 // A question's mark, and the line's end.
-fn put_mark(out: &mut [u8], end: usize, settled: bool) -> usize
-    ensures puts { Puts (mark_text settled) end out.old result out.new }
+fn put_mark(writer: &mut BackWriter, settled: bool)
+    ensures puts { Puts (mark_text settled) writer.old writer.new }
     ensures few { length (mark_text settled) ≤ 8 }
 {
     if settled {
-        put_bytes(out, end, b"settled\n")
+        writer.put_bytes(b"settled\n");
     } else {
-        put_bytes(out, end, b"open\n")
+        writer.put_bytes(b"open\n");
     }
 }
 
 // The answer of a call that was not refused.
-fn put_done(out: &mut [u8], end: usize, handed_in: bool) -> usize
-    ensures puts { Puts (done_text handed_in) end out.old result out.new }
+fn put_done(writer: &mut BackWriter, handed_in: bool)
+    ensures puts { Puts (done_text handed_in) writer.old writer.new }
     ensures few { length (done_text handed_in) ≤ 8 }
 {
     if handed_in {
-        put_bytes(out, end, b"0,0,0,0\n")
+        writer.put_bytes(b"0,0,0,0\n");
     } else {
-        put_bytes(out, end, b"0\n")
+        writer.put_bytes(b"0\n");
     }
 }
 
 // Two numbers and a mark.
-fn put_lasts(out: &mut [u8], end: usize, a: u32, b: u32, settled: bool) -> usize
-    ensures puts { Puts (lasts_text a b settled) end out.old result out.new }
+fn put_lasts(writer: &mut BackWriter, a: u32, b: u32, settled: bool)
+    ensures puts { Puts (lasts_text a b settled) writer.old writer.new }
     ensures few { length (lasts_text a b settled) ≤ 50 }
 {
-    let mark = put_mark(out, end, settled);
-    let second = put_field(out, mark, b as u64, b',');
-    put_field(out, second, a as u64, b',')
+    put_mark(writer, settled);
+    put_field(writer, b as u64, b',');
+    put_field(writer, a as u64, b',');
 }
 
 // The active number and its content, or none, and a mark.
-fn put_shown(out: &mut [u8], end: usize, shown: Option<(u32, u32)>, settled: bool) -> usize
-    ensures puts { Puts (shown_text shown settled) end out.old result out.new }
+fn put_shown(writer: &mut BackWriter, shown: Option<(u32, u32)>, settled: bool)
+    ensures puts { Puts (shown_text shown settled) writer.old writer.new }
     ensures few { length (shown_text shown settled) ≤ 50 }
 {
     match shown {
-        Some((number, content)) => put_lasts(out, end, number, content, settled),
+        Some((number, content)) => put_lasts(writer, number, content, settled),
         None => {
-            let mark = put_mark(out, end, settled);
-            put_bytes(out, mark, b"none,")
+            put_mark(writer, settled);
+            writer.put_bytes(b"none,");
         }
     }
 }
 
 // The answer of a call that is no refused hand-in.
-fn put_answer(out: &mut [u8], end: usize, handed_in: bool, reply: Reply) -> usize
-    ensures puts { Puts (answer_text handed_in (told_reply reply)) end out.old result out.new }
+fn put_answer(writer: &mut BackWriter, handed_in: bool, reply: Reply)
+    ensures puts { Puts (answer_text handed_in (told_reply reply)) writer.old writer.new }
     ensures few { length (answer_text handed_in (told_reply reply)) ≤ 84 }
 {
     match reply {
-        Reply::Done => put_done(out, end, handed_in),
-        Reply::Refused(refusal) => put_field(out, end, refusal.number() as u64, b'\n'),
-        Reply::NotHandedIn(why) => put_rejection(out, end, why),
-        Reply::DoesNotTake => put_bytes(out, end, b"\n"),
-        Reply::Shows(shown, settled) => put_shown(out, end, shown, settled),
-        Reply::Lasts(begin, last, settled) => put_lasts(out, end, begin, last, settled),
+        Reply::Done => put_done(writer, handed_in),
+        Reply::Refused(refusal) => put_field(writer, refusal.number() as u64, b'\n'),
+        Reply::NotHandedIn(why) => put_rejection(writer, why),
+        Reply::DoesNotTake => writer.put_bytes(b"\n"),
+        Reply::Shows(shown, settled) => put_shown(writer, shown, settled),
+        Reply::Lasts(begin, last, settled) => put_lasts(writer, begin, last, settled),
     }
 }
 
-// The line of a call's reply.
-pub fn put_reply(out: &mut [u8], end: usize, count: usize, handed_in: bool, reply: Reply) -> usize
-    ensures puts { Puts (reply_text count handed_in (told_reply reply)) end out.old result out.new }
+// The line of a call's reply. Whether a text was handed in is the caller's to say: what is replied to one that was
+// taken is no other reply than a take's.
+pub fn put_reply(writer: &mut BackWriter, count: usize, handed_in: bool, reply: Reply)
+    ensures puts { Puts (reply_text count handed_in (told_reply reply)) writer.old writer.new }
     ensures few { length (reply_text count handed_in (told_reply reply)) ≤ 105 }
 {
-    let start = put_answer(out, end, handed_in, reply);
-    put_field(out, start, count as u64, b',')
+    put_answer(writer, handed_in, reply);
+    put_field(writer, count as u64, b',');
 }
 
-// The line of a node: 0, or the number of its refusal.
-pub fn put_node(out: &mut [u8], end: usize, count: usize, refusal: u8) -> usize
-    ensures puts { Puts (node_text count refusal) end out.old result out.new }
+// The line of a node: 0, or the number of its refusal, which is a number here since a narrower type would ask more of callers.
+pub fn put_node(writer: &mut BackWriter, count: usize, refusal: u8)
+    ensures puts { Puts (node_text count refusal) writer.old writer.new }
     ensures few { length (node_text count refusal) ≤ 42 }
 {
-    let start = put_field(out, end, refusal as u64, b'\n');
-    put_field(out, start, count as u64, b',')
+    put_field(writer, refusal as u64, b'\n');
+    put_field(writer, count as u64, b',');
 }
 
 // The number of the line that ended the reading.
-pub fn put_unreadable(out: &mut [u8], end: usize, line: usize) -> usize
-    ensures puts { Puts (unreadable_text line) end out.old result out.new }
+pub fn put_unreadable(writer: &mut BackWriter, line: usize)
+    ensures puts { Puts (unreadable_text line) writer.old writer.new }
     ensures few { length (unreadable_text line) ≤ 32 }
 {
-    let start = put_field(out, end, line as u64, b'\n');
-    put_bytes(out, start, b"unreadable,")
+    put_field(writer, line as u64, b'\n');
+    writer.put_bytes(b"unreadable,");
 }

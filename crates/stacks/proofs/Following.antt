@@ -1,7 +1,7 @@
 -- A list sent to a stack is the list sent to the bare stream; and a loop that sends it.
 use Rattle.std.proofs.Common.{◌≡◌, ℕ, zero, suc, ◌+◌, ◌<◌, ◌≤◌, false, eqb, List, [], ◌∷◌, ◌++◌, map, length, get_or, take, drop, set, Some, None, Option, sym, refl, ap, ◌∙◌, arith}
 use Rattle.std.specs.List.{slice_get}
-use Rattle.std.proofs.lemmas.Bool.{true≢false, cond_both}
+use Rattle.std.proofs.lemmas.Bool.{cond_both}
 use Rattle.std.proofs.lemmas.List.{at_drop_more, at_drop_all, drop_more, drop_all, take_more_set, map_push, append_assoc, append-nil}
 use Rattle.fields.specs.Faults.{Told, fine, refused, then}
 use Rattle.documents.specs.declared.document.Document.{Document}
@@ -46,13 +46,13 @@ reply_at_lem : (k : Delay) (p : Parts) (f : Document → Document) (o : Option E
 reply_at_lem k p f (Some e) (HandIn text) h = ap handed_answer (told-delayed k p (read_document_of text.now))
 reply_at_lem k p f (Some e) (Take x) h = ap answered (sym (refusal-delayed k p x))
 reply_at_lem k p f (Some e) (Tick t) h = ap answered (sym (tick-refusal-delayed k p t))
-reply_at_lem k p f (Some e) (Active w t) h = absurd (true≢false h)
-reply_at_lem k p f (Some e) (Interval w n) h = absurd (true≢false h)
+reply_at_lem k p f (Some e) (Active w t) h = cc
+reply_at_lem k p f (Some e) (Interval w n) h = cc
 reply_at_lem k p f None (HandIn text) h = refl
 reply_at_lem k p f None (Take x) h = refl
 reply_at_lem k p f None (Tick t) h = refl
-reply_at_lem k p f None (Active w t) h = absurd (true≢false h)
-reply_at_lem k p f None (Interval w n) h = absurd (true≢false h)
+reply_at_lem k p f None (Active w t) h = cc
+reply_at_lem k p f None (Interval w n) h = cc
 
 reply_stacked : (ks : List Delay) (p : Parts) (c : Call) → asks c ≡ false → reply (stack ks p) c ≡ reply p c
 reply_stacked [] p c h = refl

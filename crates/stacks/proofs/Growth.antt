@@ -2,7 +2,7 @@
 use Rattle.std.proofs.Common.{◌≡◌, ℕ, zero, suc, ◌<◌, ◌≤◌, min, Bool, true, false, cond, ◌&&◌, eqb, ltb, leb, List, [], ◌∷◌, ◌++◌, Some, None, Option, sym, refl, ap, ◌∙◌, ap₂, arith}
 use mathlib.Core.Path.{fun_ext}
 use Rattle.std.specs.Option.{option_map}
-use Rattle.std.proofs.lemmas.Bool.{false≢true, cond_both, ltb-true, leb-true, eqb-true, lt-ltb, le-leb, lt-leb}
+use Rattle.std.proofs.lemmas.Bool.{cond_both, ltb-true, leb-true, eqb-true, lt-ltb, le-leb, lt-leb}
 use Rattle.std.proofs.lemmas.Bool.Decides.{nat_tests}
 use Rattle.times.specs.Clock.{last_moment}
 use Rattle.fields.specs.Faults as faults
@@ -36,7 +36,7 @@ due-begin : (w : Window) (d : Document) → due d ≤ resolved_begin_of w d
 due-begin w d = omega arith
 
 found_more : (p : Document → Bool) (ds es : List Document) (d : Document) → found p ds ≡ Some d → found p (ds ++ es) ≡ Some d
-found_more p [] es d h = let z : ◌≡◌ {A = ℕ} 0 1 = cc in absurd (omega arith)
+found_more p [] es d h = cc
 found_more p (e ∷ ds) es d h = step (p e) h (found_more p ds es d)
   where
     step : (b : Bool) → cond b (Some e) (found p ds) ≡ Some d → (found p ds ≡ Some d → found p (ds ++ es) ≡ Some d) → cond b (Some e) (found p (ds ++ es)) ≡ Some d
@@ -44,7 +44,7 @@ found_more p (e ∷ ds) es d h = step (p e) h (found_more p ds es d)
     step false q ih = ih q
 
 found_past : (p : Document → Bool) (ds : List Document) (x : Document) → p x ≡ false → found p (ds ++ x ∷ []) ≡ found p ds
-found_past p [] x h = rw h refl
+found_past p [] x h = simp h
 found_past p (e ∷ ds) x h = ap (cond (p e) (Some e)) (found_past p ds x h)
 
 active_past : (w : Window) (shown : List Document) (x : Document) (t : ℕ) → t < resolved_begin_of w x
@@ -73,7 +73,7 @@ interval_same w p p' (Some d) le same m =
     rw e (ap (interval (resolved_begin_of w d) (resolved_end_of w p.shown d)) (le-leb (resolved_end_of w p.shown d) p'.settled (omega arith) ∙ sym m))
 
 marked_some : (w : Window) (p : Parts) (o : Option Document) → marked (interval_in p w o) ≡ true → (d : Document) × (o ≡ Some d)
-marked_some w p None m = absurd (false≢true m)
+marked_some w p None m = absurd (cc)
 marked_some w p (Some d) m = (d, refl)
 
 stays_taken : (p : Parts) (e : Entry) (x : Document) → p.settled ≤ due (e.appearance x) → (q : Call) → marked (asked_of p q) ≡ true → asked_of (taken p e x) q ≡ asked_of p q
@@ -129,12 +129,12 @@ lasts p (c ∷ calls) h q m =
     lasts (follow p c) calls h.1 q (ap marked e ∙ m) ∙ e
 
 unmarked : (n : ℕ) → marked (answered n) ≡ true → ⊥
-unmarked zero m = false≢true m
-unmarked (suc n) m = false≢true m
+unmarked zero m = cc
+unmarked (suc n) m = cc
 
 unmarked_handed : (t : Told (Unit {0})) → marked (handed_answer t) ≡ true → ⊥
-unmarked_handed (fine u) m = false≢true m
-unmarked_handed (faults.refused n l o c) m = false≢true m
+unmarked_handed (fine u) m = cc
+unmarked_handed (faults.refused n l o c) m = cc
 
 -- only questions are answered with the mark
 asked_of_lem : (p : Parts) (o : Option Entry) (c : Call) → marked (reply_at p o c) ≡ true → reply_at p o c ≡ asked_of p c
@@ -147,7 +147,7 @@ asked_of_lem p (Some e) (Interval w n) m = refl
 
 -- b
 pub settles : (p : Parts) (calls : List Call) → PromptRun p calls → Settles (run p calls) calls (replies p calls)
-settles p [] h place call answer e f m = let z : ◌≡◌ {A = ℕ} 0 1 = cc in absurd (omega arith)
+settles p [] h place call answer e f m = cc
 settles p (c ∷ calls) h zero call answer e f m =
     let ec : c ≡ call = cc in
     let ea : reply p c ≡ answer = cc in

@@ -1,6 +1,8 @@
 -- A stack moves every document, and all that follows, by the sum of its adjustments.
 use Rattle.std.proofs.Common.{◌≡◌, ℕ, ◌+◌, ◌≤◌, min, Bool, true, false, cond, ◌&&◌, ltb, leb, List, [], ◌∷◌, map, Some, None, Option, sym, refl, ap, ◌∙◌, ap₂, add-zero, add_assoc, arith}
 use Rattle.std.specs.Option.{option_map}
+use Rattle.std.proofs.lemmas.List.{map-id}
+use Rattle.std.proofs.lemmas.Simd.{map-map}
 use Rattle.std.proofs.lemmas.Bool.Decides.{nat_tests}
 use Rattle.documents.specs.declared.document.Document.{Document}
 use Rattle.streams.specs.Streams.{Parts, later_of, due}
@@ -72,18 +74,10 @@ settled_stacked (n ∷ nodes) p =
     ∙ add_assoc p.settled (adjustments nodes p.total) (adjustment n (p.total + adjustments nodes p.total))
 
 shown_stacked : (nodes : List Delay) (p : Parts) → (stack nodes p).shown ≡ map (through nodes p.total) p.shown
-shown_stacked [] p = map_same p.shown
-  where
-    map_same : (ds : List Document) → ds ≡ map (λ d. d) ds
-    map_same [] = refl
-    map_same (d ∷ ds) = ap (λ (r : List Document). d ∷ r) (map_same ds)
+shown_stacked [] p = sym (map-id p.shown)
 shown_stacked (n ∷ nodes) p =
-    ap₂ (λ (t : ℕ) (ds : List Document). map (altered n (adjustment n t)) ds) (total_stacked nodes p) (shown_stacked nodes p) ∙ map-twice p.shown
-  where
-    map-twice : (ds : List Document)
-        → map (altered n (adjustment n (p.total + adjustments nodes p.total))) (map (through nodes p.total) ds) ≡ map (λ d. altered n (adjustment n (p.total + adjustments nodes p.total)) (through nodes p.total d)) ds
-    map-twice [] = refl
-    map-twice (d ∷ ds) = ap (λ (r : List Document). altered n (adjustment n (p.total + adjustments nodes p.total)) (through nodes p.total d) ∷ r) (map-twice ds)
+    ap₂ (λ (t : ℕ) (ds : List Document). map (altered n (adjustment n t)) ds) (total_stacked nodes p) (shown_stacked nodes p)
+    ∙ map-map (altered n (adjustment n (p.total + adjustments nodes p.total))) (through nodes p.total) p.shown
 
 leb-plus : (k a b a' b' : ℕ) → a' ≡ a + k → b' ≡ b + k → leb a' b' ≡ leb a b
 leb-plus k a b a' b' p q = grind (arith, nat_tests)

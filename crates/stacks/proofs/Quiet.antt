@@ -1,6 +1,5 @@
 -- A stack that does not take keeps its parts whatever it is sent.
 use Rattle.std.proofs.Common.{◌≡◌, false, refl}
-use Rattle.std.proofs.lemmas.Bool.{true≢false}
 use Rattle.fields.specs.Faults.{Told, fine, refused}
 use Rattle.documents.specs.declared.document.Document.{Document}
 use Rattle.documents.specs.Reading.{read_document_of}
@@ -29,5 +28,5 @@ pub quiet : (p : Parts) (c : Call) → asks c ≡ false → Quiet p c
 quiet p (HandIn text) h = record { answer = refl; after = read_quiet p (read_document_of text.now); prompt = prompt_quiet p (read_document_of text.now) }
 quiet p (Take x) h = record { answer = refl; after = refl; prompt = tt }
 quiet p (Tick t) h = record { answer = refl; after = refl; prompt = tt }
-quiet p (Active w t) h = absurd (true≢false h)
-quiet p (Interval w n) h = absurd (true≢false h)
+quiet p (Active w t) h = absurd (cc)
+quiet p (Interval w n) h = absurd (cc)

@@ -1,6 +1,6 @@
 -- What sending to both streams comes to.
-use Rattle.std.proofs.Common.{◌≡◌, ◌<◌, ◌≤◌, true, false, leb, ◌⊎◌, List, [], length, sym, refl, subst, ⊎_elim}
-use Rattle.std.proofs.lemmas.Bool.{and_from, and_left, and_right, le-leb, lt-leb}
+use Rattle.std.proofs.Common.{◌≡◌, ◌<◌, ◌≤◌, true, false, ◌⊎◌, List, [], length, sym, refl, subst, arith}
+use Rattle.std.proofs.lemmas.Bool.Decides.{nat_tests}
 use Rattle.stacks.specs.declared.calls.Call.{Call}
 use Rattle.stacks.specs.declared.calls.Reply.{Reply}
 use Rattle.streams.specs.declared.stream.Stream.{Ghosts}
@@ -10,12 +10,10 @@ use Rattle.stacks.specs.Promise.{Promise}
 use Rattle.stacks.proofs.Promised.{promise}
 
 pub some_room : (calls : List Call) (replies others : List Reply) → length calls ≤ length replies → length calls ≤ length others → room calls replies others ≡ true
-some_room calls replies others h k = and_from _ _ (le-leb (length calls) (length replies) h) (le-leb (length calls) (length others) k)
+some_room calls replies others h k = grind (arith, nat_tests)
 
 pub no_room : (calls : List Call) (replies others : List Reply) → (length replies < length calls) ⊎ (length others < length calls) → room calls replies others ≡ false
-no_room calls replies others h =
-    ⊎_elim (λ k. and_left _ (leb (length calls) (length others)) (lt-leb (length calls) (length replies) k))
-    (λ k. and_right (leb (length calls) (length replies)) _ (lt-leb (length calls) (length others) k)) h
+no_room calls replies others h = grind (arith, nat_tests)
 
 pub record Delivered {X Y : Type 0} (D : Ghosts X) (B : Ghosts Y) (calls : List Call) (stack stack' : X) (held replies : List Reply) (second second' : Y) (held₂ others : List Reply) : Type 0 where
   pub first : Served D calls stack stack' held replies

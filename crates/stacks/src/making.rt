@@ -1,4 +1,6 @@
-// What the calls that make a stack promise of it.
+// What the calls that make a stack promise of it. Two traits: the first asks a taking stream and keeps its
+// parts, the second asks any stream and drops what takes. One trait would need that difference as a ghost
+// member of each of its users, which reads no plainer than the two clauses in which they differ.
 
 ghost use Rattle.std.specs.Prelude.{◌≡◌};
 ghost use Rattle.stacks.specs.Still.{still};

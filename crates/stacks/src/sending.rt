@@ -15,6 +15,7 @@ fn send_each<D: Stack>(stack: &mut D, calls: &[Call], replies: &mut [Reply])
     ensures served { Served D.Stream calls.now stack.old stack.new replies.old replies.new }
     ensures prompt { PromptRun (D.Stream.parts stack.old) calls.now }
 {
+    // By index: after `iter_mut().zip(calls)` the proof knows nothing of what was written.
     for (i, call) in calls.iter().enumerate() {
         replies[i] = stack.serve(call);
     }

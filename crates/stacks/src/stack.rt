@@ -1,33 +1,30 @@
 // What a list of calls can be sent to.
 
 ghost use Rattle.std.specs.Prelude.{◌≡◌};
-ghost use Rattle.times.specs.Refusals.{refusal_in};
-ghost use Rattle.fields.specs.Faults.{told};
-ghost use Rattle.questions.specs.Asking.{told_active, told_interval};
-ghost use Rattle.stacks.specs.Calls.{told_reply, reply as reply_to, follow, PromptCall, answered, handed_answer};
+ghost use Rattle.stacks.specs.Calls.{told_reply, reply, follow, PromptCall};
 ghost use Rattle.stacks.specs.Still.{still, still_lawful, still_stacked};
 
 use crate::calls::{Call, Reply};
 use crate::making::{AskedOver, TakingOver};
 use documents::document::Document;
-use fields::fault::Rejection;
 use questions::asking::{active, interval};
 use streams::hand_in::hand_in;
 use streams::stream::Stream;
 use streams::taking::TakingStream;
-use times::refusal::Refusal;
 
 // A stream that answers calls, one after another.
 pub trait Stack: Stream {
     fn serve(&mut self, call: &Call) -> Reply
-        ensures answer { told_reply result ≡ reply_to (Self.Stream.parts self.old) call.now }
+        ensures answer { told_reply result ≡ reply (Self.Stream.parts self.old) call.now }
         ensures after { Self.Stream.parts self.new ≡ follow (Self.Stream.parts self.old) call.now }
         ensures prompt { PromptCall (Self.Stream.parts self.old) call.now }
         ensures nodes { Self.Stream.nodes self.new ≡ Self.Stream.nodes self.old }
         ensures bare { Self.Stream.bare self.new ≡ follow (Self.Stream.bare self.old) call.now };
 }
 
-// A stack over a stream that takes.
+// A stack over a stream that takes. It and the one below forward the same four calls, and differ in the
+// parts that they show: one struct over both would need a trait that brings those parts with three laws,
+// two types that stand for its two ways, and a field that holds nothing, more than the calls it saves.
 #[derive(Drop)]
 pub struct Taking<S> {
     stack: S,
@@ -107,52 +104,16 @@ impl<S: Stream> Stream for Asked<S> {
     }
 }
 
-fn reply(answer: Result<(), Refusal>) -> Reply
-    ensures { told_reply result ≡ answered (refusal_in answer) }
-{
-    match answer {
-        Ok(()) => Reply::Done,
-        Err(refusal) => Reply::Refused(refusal),
-    }
-}
-
-fn handed(answer: Result<(), Rejection>) -> Reply
-    ensures { told_reply result ≡ handed_answer (told answer) }
-{
-    match answer {
-        Ok(()) => Reply::Done,
-        Err(why) => Reply::NotHandedIn(why),
-    }
-}
-
-fn shows(answer: Result<(Option<(u32, u32)>, bool), Refusal>) -> Reply
-    ensures { told_reply result ≡ told_active answer }
-{
-    match answer {
-        Ok((shown, settled)) => Reply::Shows(shown, settled),
-        Err(refusal) => Reply::Refused(refusal),
-    }
-}
-
-fn lasts(answer: Result<(u32, u32, bool), Refusal>) -> Reply
-    ensures { told_reply result ≡ told_interval answer }
-{
-    match answer {
-        Ok((begin, end, settled)) => Reply::Lasts(begin, end, settled),
-        Err(refusal) => Reply::Refused(refusal),
-    }
-}
-
 impl<S: TakingStream> Stack for Taking<S> {
     fn serve(&mut self, call: &Call) -> Reply {
         // asked for its promise, that the stream does take: a refused text calls nothing else
         let _ = self.stack.entry_moment();
         match call {
-            Call::HandIn(text) => handed(hand_in(&mut self.stack, text)),
-            Call::Take(document) => reply(self.stack.take(*document)),
-            Call::Tick(moment) => reply(self.stack.tick(*moment)),
-            Call::Active(window, moment) => shows(active(&self.stack, *window, *moment)),
-            Call::Interval(window, number) => lasts(interval(&self.stack, *window, *number)),
+            Call::HandIn(text) => hand_in(&mut self.stack, text).into(),
+            Call::Take(document) => self.stack.take(*document).into(),
+            Call::Tick(moment) => self.stack.tick(*moment).into(),
+            Call::Active(window, moment) => active(&self.stack, *window, *moment).into(),
+            Call::Interval(window, number) => interval(&self.stack, *window, *number).into(),
         }
     }
 }
@@ -160,11 +121,9 @@ impl<S: TakingStream> Stack for Taking<S> {
 impl<S: Stream> Stack for Asked<S> {
     fn serve(&mut self, call: &Call) -> Reply {
         match call {
-            Call::Active(window, moment) => shows(active(&self.stack, *window, *moment)),
-            Call::Interval(window, number) => lasts(interval(&self.stack, *window, *number)),
-            Call::HandIn(_) => Reply::DoesNotTake,
-            Call::Take(_) => Reply::DoesNotTake,
-            Call::Tick(_) => Reply::DoesNotTake,
+            Call::Active(window, moment) => active(&self.stack, *window, *moment).into(),
+            Call::Interval(window, number) => interval(&self.stack, *window, *number).into(),
+            Call::HandIn(_) | Call::Take(_) | Call::Tick(_) => Reply::DoesNotTake,
         }
     }
 }

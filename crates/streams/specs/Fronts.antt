@@ -1,5 +1,5 @@
 -- Facts about the first n of the lent records, which a live table shows.
-use Rattle.std.specs.Prelude.{◌≡◌, ℕ, ◌+◌, ◌-◌, ◌<◌, ◌≤◌, true, List, [], ◌∷◌, ◌++◌, length, get_or, take, Some, None, nat_le, nat_lt, slice_index_or, refl}
+use Rattle.std.specs.Prelude.{◌≡◌, ℕ, suc, ◌+◌, ◌-◌, ◌<◌, ◌≤◌, true, List, [], ◌∷◌, ◌++◌, length, get_or, take, Some, None, nat_le, nat_lt, slice_index_or, refl}
 use Rattle.std.proofs.Common.{sym, ap, ◌∙◌, arith}
 use Rattle.std.specs.List.{slice_get}
 use Rattle.std.proofs.lemmas.Option.{slice_get-get_or, slice_get_past}
@@ -39,6 +39,31 @@ front_lawful n xs m w f e =
     let l : length (take n xs) ≡ n = length-take-le n xs (omega arith) in
     record { few = omega arith; ordered = f; capped = omega arith; bounded = omega arith; faithful = λ x. (refl, refl) }
 
+-- One more document at the end.
+pub available_push : (a : ℕ) (xs : List Document) (x : Document) → last_available a (xs ++ x ∷ []) ≡ x.available
+available_push a [] x = refl
+available_push a (y ∷ ys) x = available_push y.available ys x
+
+-- The last document of a list has its last number.
+pub last_some : (n : ℕ) (xs : List Document) (x : Document) → slice_get xs (length xs - 1) ≡ Some x → last_from n xs ≡ x.number
+last_some n [] x e = cc
+last_some n (y ∷ []) x e = let s : y ≡ x = cc in ap (λ (v : Document). v.number) s
+last_some n (y ∷ z ∷ zs) x e =
+    let k : length (y ∷ z ∷ zs) - 1 ≡ suc (length (z ∷ zs) - 1) = omega arith in
+    last_some y.number (z ∷ zs) x (ap (slice_get (y ∷ z ∷ zs)) (sym k) ∙ e)
+
+pub last_none : (n : ℕ) (xs : List Document) → slice_get xs (length xs - 1) ≡ None → last_from n xs ≡ n
+last_none n [] e = refl
+last_none n (y ∷ ys) e = let s = slice_get-get_or (y ∷ ys) (length (y ∷ ys) - 1) y (omega arith) in cc
+
+pub orderly_push : (l n a : ℕ) (xs : List Document) (x : Document) → orderly l n a xs ≡ true → last_from n xs < x.number → last_available a xs ≤ x.available → timely l x ≡ true → orderly l n a (xs ++ x ∷ []) ≡ true
+orderly_push l n a [] x h p q t = orderly_from l n a x [] (record { above = p; from = q; times = t; rest = refl })
+orderly_push l n a (y ∷ ys) x h p q t =
+    let f = orderly_facts l n a y ys h in
+    orderly_from l n a y (ys ++ x ∷ []) (record { above = f.above; from = f.from; times = f.times; rest = orderly_push l y.number y.available ys x f.rest p q t })
+
+-- No proof here cites the rest; proofs of a host's own may.
+
 -- The document at a place of the first n records.
 pub front_at : (n : ℕ) (xs : List Document) (i : ℕ) (d : Document) → n ≤ length xs → i < n → Some (slice_index_or xs i d) ≡ slice_get (take n xs) i
 front_at n xs i d h k =
@@ -49,23 +74,12 @@ pub front_past : (n : ℕ) (xs : List Document) (i : ℕ) → n ≤ length xs �
 front_past n xs i h k =
     let l : length (take n xs) ≡ n = length-take-le n xs h in sym (slice_get_past (take n xs) i (omega arith))
 
--- One more document at the end.
 pub last_push : (n : ℕ) (xs : List Document) (x : Document) → last_from n (xs ++ x ∷ []) ≡ x.number
 last_push n [] x = refl
 last_push n (y ∷ ys) x = last_push y.number ys x
-
-pub available_push : (a : ℕ) (xs : List Document) (x : Document) → last_available a (xs ++ x ∷ []) ≡ x.available
-available_push a [] x = refl
-available_push a (y ∷ ys) x = available_push y.available ys x
 
 pub last_front : (n : ℕ) (xs : List Document) (d : Document) → n ≤ length xs → 0 < n → (get_or xs (n - 1) d).number ≡ last_number_of (take n xs)
 last_front n xs d h k =
     let e : n ≡ (n - 1) + 1 = omega arith in
     let t = take_more xs (n - 1) d (omega arith) in
     sym (ap (λ (m : ℕ). last_number_of (take m xs)) e ∙ ap (last_number_of) t ∙ last_push 0 (take (n - 1) xs) (slice_index_or xs (n - 1) d))
-
-pub orderly_push : (l n a : ℕ) (xs : List Document) (x : Document) → orderly l n a xs ≡ true → last_from n xs < x.number → last_available a xs ≤ x.available → timely l x ≡ true → orderly l n a (xs ++ x ∷ []) ≡ true
-orderly_push l n a [] x h p q t = orderly_from l n a x [] (record { above = p; from = q; times = t; rest = refl })
-orderly_push l n a (y ∷ ys) x h p q t =
-    let f = orderly_facts l n a y ys h in
-    orderly_from l n a y (ys ++ x ∷ []) (record { above = f.above; from = f.from; times = f.times; rest = orderly_push l y.number y.available ys x f.rest p q t })

@@ -3,5 +3,6 @@ pub mod Stacks
 pub mod Taking
 pub mod Tables
 pub mod Fronts
+pub mod Live
 pub mod Handing
 pub mod Prepared

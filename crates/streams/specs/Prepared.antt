@@ -1,10 +1,8 @@
 -- The prepared list: which entries open, and what the stream over them means.
-use Rattle.std.specs.Prelude.{◌≡◌, ℕ, zero, suc, ◌+◌, ◌<◌, ◌≤◌, Bool, true, cond, ◌&&◌, List, [], ◌∷◌, length, Some, None, Option, nat_le, nat_lt, slice_index_or, refl}
+use Rattle.std.specs.Prelude.{◌≡◌, ℕ, zero, suc, ◌+◌, ◌<◌, ◌≤◌, Bool, true, cond, ◌&&◌, List, [], ◌∷◌, length, Some, None, nat_le, nat_lt, slice_index_or, refl}
 use Rattle.std.proofs.Common.{ap, ◌∙◌, arith}
 use Rattle.std.specs.List.{slice_get}
 use Rattle.std.proofs.lemmas.Bool.{and_parts, and_from, leb-true, ltb-true, le-leb}
-use Rattle.times.specs.declared.refusal.Refusal.{Refusal}
-use Rattle.times.specs.Refusals.{number_of}
 use Rattle.times.specs.Clock.{entry_limit}
 use Rattle.documents.specs.declared.document.Document.{Document}
 use Rattle.streams.specs.declared.prepared.Entry.{Entry}
@@ -44,11 +42,6 @@ opening_refusal xs = cond (is_prepared_of xs) 0 18
 -- the parts of what is opened: entries that are refused give an empty list
 abbrev pub opened_parts : List Entry → Parts
 opened_parts xs = cond (is_prepared_of xs) (prepared_parts xs) (prepared_parts [])
-
--- the number of a refusal, 0 where there is none
-abbrev pub refusal_number : Option Refusal → ℕ
-refusal_number None = 0
-refusal_number (Some e) = number_of e
 
 pub length_from : (n : ℕ) (xs : List Entry) → length (documents_from n xs) ≡ length xs
 length_from n [] = refl

@@ -1,4 +1,4 @@
-// A stream that is lent is that stream, so that a node may stand over a table that its host keeps.
+// A taking stream that is lent takes as that stream does, so that a node may stand over a table that its host keeps.
 
 ghost use Rattle.std.specs.Prelude.{◌≡◌};
 
@@ -6,34 +6,6 @@ use crate::stream::Stream;
 use crate::taking::TakingStream;
 use documents::document::Document;
 use times::refusal::Refusal;
-
-impl<'b, S: Stream> Stream for &'b mut S {
-    ghost parts = { λ s. S.Stream.parts s.now };
-
-    ghost lawful = { λ s. S.Stream.lawful s.now };
-
-    ghost nodes = { λ s. S.Stream.nodes s.now };
-
-    ghost bare = { λ s. S.Stream.bare s.now };
-
-    ghost stacked = { λ s. S.Stream.stacked s.now };
-
-    fn count(&self) -> usize {
-        S::count(&**self)
-    }
-
-    fn document_at(&self, place: usize) -> Option<Document> {
-        S::document_at(&**self, place)
-    }
-
-    fn settled_moment(&self) -> u32 {
-        S::settled_moment(&**self)
-    }
-
-    fn total_adjustment(&self) -> u32 {
-        S::total_adjustment(&**self)
-    }
-}
 
 impl<'b, S: TakingStream> TakingStream for &'b mut S {
     fn entry_moment(&self) -> u32 {

@@ -18,7 +18,8 @@ use times::refusal::Refusal;
 // The most records that a table uses of those it is lent.
 pub const MOST_SHOWN: usize = 4096;
 
-// Documents in lent records: the first `used` are shown, and `moment` is the entry moment.
+// Documents in lent records: the first `used` are shown, and `moment` is the entry moment. The count stands beside
+// the records, since their memory is the host's.
 #[derive(Drop)]
 pub struct LiveTable<'a> {
     records: &'a mut [Document],
@@ -31,23 +32,29 @@ pub struct LiveTable<'a> {
 }
 
 impl<'a> LiveTable<'a> {
+    // The records in use.
+    fn shown(&self) -> &[Document]
+        ensures { result.now ≡ take self.now.used self.now.records.now }
+    {
+        &self.records[..self.used]
+    }
+
+    #[tactic(auto, using(crate::specs::Fronts::last_some, crate::specs::Fronts::last_none))]
     fn last_number(&self) -> u32
         ensures { result ≡ last_number_of (take self.now.used self.now.records.now) }
     {
-        if self.used == 0 {
-            0
-        } else {
-            self.records[self.used - 1].number
-        }
+        self.shown().last().map_or(0, |x| x.number)
     }
 }
 
 // An empty table at entry moment 0. What the records hold is kept until they are used.
 impl<'a> TableOver<'a> for LiveTable<'a> {
+    ghost use Rattle.streams.specs.Live.{table_of};
+
     fn over(records: &'a mut [Document]) -> LiveTable<'a>
-        ensures parts { table_parts result.used result.records.now result.moment ≡ table_parts 0 records.old 0 }
+        ensures parts { table_of result ≡ table_parts 0 records.old 0 }
         ensures nodes { ◌≡◌ {A = List Delay} [] [] }
-        ensures bare { table_parts result.used result.records.now result.moment ≡ table_parts result.used result.records.now result.moment }
+        ensures bare { table_of result ≡ table_of result }
         ensures used { result.used ≡ 0 }
         ensures moment { result.moment ≡ 0 }
         ensures records { result.records.now ≡ records.old }
@@ -64,10 +71,7 @@ impl<'a> TableOver<'a> for LiveTable<'a> {
 fn within_limit(time: Option<u32>) -> bool
     ensures { result ≡ up_to 355199999 time }
 {
-    match time {
-        Some(time) => time <= ENTRY_LIMIT,
-        None => true,
-    }
+    time.is_none_or(|time| time <= ENTRY_LIMIT)
 }
 
 fn is_timely(x: &Document) -> bool
@@ -80,13 +84,15 @@ fn is_timely(x: &Document) -> bool
 }
 
 impl<'a> Stream for LiveTable<'a> {
-    ghost parts = { λ s. table_parts s.used s.records.now s.moment };
+    ghost use Rattle.streams.specs.Live.{table_of};
+
+    ghost parts = { table_of };
 
     ghost lawful = { λ s. front_lawful s.used s.records.now s.moment s.within s.ordered s.entering };
 
     ghost nodes = { λ s. [] };
 
-    ghost bare = { λ s. table_parts s.used s.records.now s.moment };
+    ghost bare = { table_of };
 
     ghost stacked = { λ s. refl };
 
@@ -95,11 +101,7 @@ impl<'a> Stream for LiveTable<'a> {
     }
 
     fn document_at(&self, place: usize) -> Option<Document> {
-        if place < self.used {
-            Some(self.records[place])
-        } else {
-            None
-        }
+        self.shown().get(place).copied()
     }
 
     fn settled_moment(&self) -> u32 {
@@ -114,16 +116,18 @@ impl<'a> Stream for LiveTable<'a> {
 // Take and tick repeat the interface's promises at what a table means, and add what the lent records
 // then hold, and that they are still the ones that were lent.
 impl<'a> TakingStream for LiveTable<'a> {
+    ghost use Rattle.streams.specs.Live.{table_of};
+
     fn entry_moment(&self) -> u32 {
         self.moment // the last that was taken or ticked
     }
 
     fn take(&mut self, document: Document) -> Result<(), Refusal>
-        ensures answer { refusal_in result ≡ take_refusal (table_parts self.old.used self.old.records.now self.old.moment) document }
-        ensures after { table_parts self.new.used self.new.records.now self.new.moment ≡ after_take (table_parts self.old.used self.old.records.now self.old.moment) document }
-        ensures prompt { Prompt (table_parts self.old.used self.old.records.now self.old.moment) document }
+        ensures answer { refusal_in result ≡ take_refusal (table_of self.old) document }
+        ensures after { table_of self.new ≡ after_take (table_of self.old) document }
+        ensures prompt { Prompt (table_of self.old) document }
         ensures nodes { ◌≡◌ {A = List Delay} [] [] }
-        ensures bare { table_parts self.new.used self.new.records.now self.new.moment ≡ after_take (table_parts self.old.used self.old.records.now self.old.moment) document }
+        ensures bare { table_of self.new ≡ after_take (table_of self.old) document }
         ensures records { self.new.records.now ≡ records_after self.old.used self.old.records.now self.old.moment document }
         ensures lender { self.new.records.ghost_name ≡ self.old.records.ghost_name }
     {
@@ -149,10 +153,10 @@ impl<'a> TakingStream for LiveTable<'a> {
     }
 
     fn tick(&mut self, moment: u32) -> Result<(), Refusal>
-        ensures answer { refusal_in result ≡ tick_refusal (table_parts self.old.used self.old.records.now self.old.moment) moment }
-        ensures after { table_parts self.new.used self.new.records.now self.new.moment ≡ after_tick (table_parts self.old.used self.old.records.now self.old.moment) moment }
+        ensures answer { refusal_in result ≡ tick_refusal (table_of self.old) moment }
+        ensures after { table_of self.new ≡ after_tick (table_of self.old) moment }
         ensures nodes { ◌≡◌ {A = List Delay} [] [] }
-        ensures bare { table_parts self.new.used self.new.records.now self.new.moment ≡ after_tick (table_parts self.old.used self.old.records.now self.old.moment) moment }
+        ensures bare { table_of self.new ≡ after_tick (table_of self.old) moment }
         ensures records { self.new.records.now ≡ self.old.records.now }
         ensures lender { self.new.records.ghost_name ≡ self.old.records.ghost_name }
     {

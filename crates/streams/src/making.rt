@@ -3,8 +3,9 @@
 // Each maker is a trait with no ghost member of its own, so that its text says all: the parts of the new
 // stream, the nodes that it is made of, and the bare stream below them.
 
-ghost use Rattle.std.specs.Prelude.{◌≡◌, [], MatchOption};
-ghost use Rattle.streams.specs.Prepared.{opened_parts, opening_refusal, refusal_number};
+ghost use Rattle.std.specs.Prelude.{◌≡◌, [], IfOk};
+ghost use Rattle.times.specs.Refusals.{refusal_in};
+ghost use Rattle.streams.specs.Prepared.{opened_parts, opening_refusal};
 ghost use Rattle.streams.specs.Tables.{table_parts};
 
 use crate::prepared::Entry;
@@ -20,18 +21,12 @@ pub trait TableOver<'a>: Stream + Sized {
         ensures bare { Self.Stream.bare result ≡ Self.Stream.parts result };
 }
 
-// What opening a list answers: the stream, and why it is empty if the entries were refused.
-#[derive(Drop)]
-pub struct Opened<P> {
-    pub list: P,
-    pub refused: Option<Refusal>,
-}
-
 // A stream over prepared entries that a host lends: no nodes, its own bare stream.
 pub trait PreparedOver<'a>: Stream + Sized {
-    fn open(entries: &'a [Entry]) -> Opened<Self>
-        ensures refusal { refusal_number result.refused ≡ opening_refusal entries.now }
-        ensures parts { Self.Stream.parts result.list ≡ opened_parts entries.now }
-        ensures nodes { Self.Stream.nodes result.list ≡ [] }
-        ensures bare { Self.Stream.bare result.list ≡ Self.Stream.parts result.list };
+    // Opens the list, or says why the entries are refused.
+    fn open(entries: &'a [Entry]) -> Result<Self, Refusal>
+        ensures refusal { refusal_in result ≡ opening_refusal entries.now }
+        ensures parts { IfOk result (λ list. Self.Stream.parts list ≡ opened_parts entries.now) }
+        ensures nodes { IfOk result (λ list. Self.Stream.nodes list ≡ []) }
+        ensures bare { IfOk result (λ list. Self.Stream.bare list ≡ Self.Stream.parts list) };
 }

@@ -4,14 +4,14 @@ ghost use Rattle.std.specs.Prelude.{◌≡◌, ◌≤◌, true, List, [], length
 ghost use Rattle.streams.specs.Prepared.{fits as fits_after, is_prepared_of, prepared_parts, prepared_lawful, opened_parts, opening_refusal};
 
 use crate::live::MOST_SHOWN;
-use crate::making::{Opened, PreparedOver};
+use crate::making::PreparedOver;
 use crate::stream::Stream;
 use documents::document::Document;
 use times::clock::{ENTRY_LIMIT, LAST_MOMENT};
 use times::refusal::Refusal;
 
 // One line of a prepared list: when it begins and ends, and what is drawn.
-#[derive(Clone, Copy)]
+#[derive(Clone, Copy, Debug, PartialEq, Eq)]
 pub struct Entry {
     pub begin: u32,
     pub end: u32,
@@ -19,7 +19,7 @@ pub struct Entry {
 }
 
 // A list that was opened. Entry i, from 0, is document i + 1.
-#[derive(Drop)]
+#[derive(Clone, Copy)]
 pub struct Prepared<'a> {
     entries: &'a [Entry],
     ghost fine: { is_prepared_of entries.now ≡ true },
@@ -32,16 +32,13 @@ fn fits(last: u32, entry: &Entry) -> bool
     last <= entry.begin && entry.begin < entry.end && entry.end <= ENTRY_LIMIT
 }
 
-// Looks at each entry in turn.
+// A rule of the project: opening looks at each entry in turn, in a loop that has the entry's place as its index.
 fn is_prepared(entries: &[Entry]) -> bool
     ensures { result ≡ is_prepared_of entries.now }
 {
     let mut last = 0;
     for (i, entry) in entries.iter().enumerate() {
-        if i >= MOST_SHOWN {
-            return false;
-        }
-        if !fits(last, entry) {
+        if i >= MOST_SHOWN || !fits(last, entry) {
             return false;
         }
         last = entry.begin;
@@ -50,17 +47,11 @@ fn is_prepared(entries: &[Entry]) -> bool
 }
 
 impl<'a> PreparedOver<'a> for Prepared<'a> {
-    fn open(entries: &'a [Entry]) -> Opened<Prepared<'a>> {
+    fn open(entries: &'a [Entry]) -> Result<Prepared<'a>, Refusal> {
         if is_prepared(entries) {
-            Opened {
-                list: Prepared { entries },
-                refused: None,
-            }
+            Ok(Prepared { entries })
         } else {
-            Opened {
-                list: Prepared { entries: &[] },
-                refused: Some(Refusal::NotPrepared),
-            }
+            Err(Refusal::NotPrepared)
         }
     }
 }
@@ -76,16 +67,14 @@ impl<'a> Stream for Prepared<'a> {
 
     ghost stacked = { λ s. refl };
 
+    #[tactic(auto, using(crate::specs::Prepared::length_from))]
     fn count(&self) -> usize {
         self.entries.len() // every entry is shown
     }
 
+    #[tactic(auto, using(crate::specs::Prepared::prepared_at, crate::specs::Prepared::prepared_past))]
     fn document_at(&self, place: usize) -> Option<Document> {
-        if place >= self.entries.len() {
-            return None;
-        }
-        let entry = self.entries[place];
-        Some(Document {
+        self.entries.get(place).map(|entry| Document {
             number: place as u32 + 1,
             available: 0,
             begin: Some(entry.begin),

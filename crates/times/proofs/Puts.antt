@@ -1,9 +1,11 @@
 -- One text put before another is both put at once.
-use Rattle.std.proofs.Common.{◌≡◌, ℕ, ◌+◌, ◌-◌, ◌/◌, ◌%◌, ◌^◌, ◌<◌, ◌≤◌, min, List, ◌++◌, length, take, drop, decimal, sym, refl, ap, ◌∙◌, ap₂, ⊎_elim, arith}
-use borrow.Rule.Slice.PartMut.{put_mid}
-use Rattle.std.proofs.lemmas.Fmt.{decimal_digit, decimal_step}
-use Rattle.std.proofs.lemmas.List.{append_assoc, length-append, length-take-le, length-drop, take-append-le, take-take, take_at, drop_at, drop_all, drop-append-le, drop-drop, take_rest, length_push}
+use native.Mathlib.Numerals.{unary_clauses}
+use Rattle.std.proofs.Common.{◌≡◌, ℕ, ◌+◌, ◌-◌, ◌/◌, ◌%◌, ◌^◌, ◌*◌, zero, suc, ◌<◌, ◌≤◌, min, List, ◌++◌, length, take, drop, decimal, sym, refl, ap, ◌∙◌, ap₂, ⊎_elim, arith}
+use Rattle.std.proofs.Math.Nat.{one-le-pow}
+use Rattle.std.proofs.lemmas.Fmt.{decimal_digit, decimal_step, decimal_nonempty, length-decimal-le}
+use Rattle.std.proofs.lemmas.List.{append_assoc, length-append, length-take-le, length-drop, take-append-le, take-take, take_at, drop_at, drop_all, drop-append-le, drop-drop, length_push}
 use Rattle.std.proofs.lemmas.Bool.{cases_lt}
+use Rattle.times.specs.declared.put.BackWriter.{BackWriter}
 use Rattle.times.specs.Put.{last_of, room, put_before, Puts}
 
 -- a drop that takes all of the front goes on into the back
@@ -67,30 +69,34 @@ put_start end r s a b out out' e f g =
     omega (arith, length-append a b)
 
 -- one text and then another in front of it
-pub put_then : (end r s : ℕ) (a b out out' out'' : List ℕ) → Puts b end out r out' → Puts a r out' s out'' → Puts (a ++ b) end out s out''
-put_then end r s a b out out' out'' p q = record {
-  begins = put_start end r s a b out out' p.begins p.holds q.begins;
-  holds = q.holds ∙ put_put end r a b out out' p.begins p.holds;
+pub put_then : (a b : List ℕ) (w w' w'' : BackWriter) → Puts b w w' → Puts a w' w'' → Puts (a ++ b) w w''
+put_then a b w w' w'' p q = record {
+  begins = put_start w.end w'.end w''.end a b w.out.now w'.out.now p.begins p.holds q.begins;
+  holds = q.holds ∙ put_put w.end w'.end a b w.out.now w'.out.now p.begins p.holds;
+  lender = q.lender ∙ p.lender;
 }
 
 -- to put `a` here does what it does to put `b` there: the step of a loop that puts one text after another
-pub record SamePut (a : List ℕ) (end : ℕ) (out b : List ℕ) (end' : ℕ) (out' : List ℕ) : Type 0 where
-  pub begins : room end out - length a ≡ room end' out' - length b
-  pub holds : put_before end a out ≡ put_before end' b out'
+pub record SamePut (a : List ℕ) (here : BackWriter) (b : List ℕ) (there : BackWriter) : Type 0 where
+  pub begins : room here.end here.out.now - length a ≡ room there.end there.out.now - length b
+  pub holds : put_before here.end a here.out.now ≡ put_before there.end b there.out.now
+  pub lender : here.out.ghost_name ≡ there.out.ghost_name
 
-pub same_start : (a b : List ℕ) (end : ℕ) (out : List ℕ) → a ≡ b → SamePut a end out b end out
-same_start a b end out e = record { begins = ap (λ (x : List ℕ). room end out - length x) e; holds = ap (λ (x : List ℕ). put_before end x out) e }
+pub same_start : (a b : List ℕ) (w : BackWriter) → a ≡ b → SamePut a w b w
+same_start a b w e = record { begins = ap (λ (x : List ℕ). room w.end w.out.now - length x) e; holds = ap (λ (x : List ℕ). put_before w.end x w.out.now) e; lender = refl }
 
-pub same_more : (all a b whole : List ℕ) (end r end' : ℕ) (out after out' : List ℕ) → all ≡ a ++ b → Puts b end out r after → SamePut all end out whole end' out' → SamePut a r after whole end' out'
-same_more all a b whole end r end' out after out' e p h = record {
-  begins = put_start end r _ a b out after p.begins p.holds refl ∙ ap (λ (x : List ℕ). room end out - length x) (sym e) ∙ h.begins;
-  holds = put_put end r a b out after p.begins p.holds ∙ ap (λ (x : List ℕ). put_before end x out) (sym e) ∙ h.holds;
+pub same_more : (all a b whole : List ℕ) (w w' there : BackWriter) → all ≡ a ++ b → Puts b w w' → SamePut all w whole there → SamePut a w' whole there
+same_more all a b whole w w' there e p h = record {
+  begins = put_start w.end w'.end _ a b w.out.now w'.out.now p.begins p.holds refl ∙ ap (λ (x : List ℕ). room w.end w.out.now - length x) (sym e) ∙ h.begins;
+  holds = put_put w.end w'.end a b w.out.now w'.out.now p.begins p.holds ∙ ap (λ (x : List ℕ). put_before w.end x w.out.now) (sym e) ∙ h.holds;
+  lender = p.lender ∙ h.lender;
 }
 
-pub same_last : (a b whole : List ℕ) (end r end' : ℕ) (out after out' : List ℕ) → a ≡ b → Puts b end out r after → SamePut a end out whole end' out' → Puts whole end' out' r after
-same_last a b whole end r end' out after out' e p h = record {
-  begins = p.begins ∙ ap (λ (x : List ℕ). room end out - length x) (sym e) ∙ h.begins;
-  holds = p.holds ∙ ap (λ (x : List ℕ). put_before end x out) (sym e) ∙ h.holds;
+pub same_last : (a b whole : List ℕ) (w w' there : BackWriter) → a ≡ b → Puts b w w' → SamePut a w whole there → Puts whole there w'
+same_last a b whole w w' there e p h = record {
+  begins = p.begins ∙ ap (λ (x : List ℕ). room w.end w.out.now - length x) (sym e) ∙ h.begins;
+  holds = p.holds ∙ ap (λ (x : List ℕ). put_before w.end x w.out.now) (sym e) ∙ h.holds;
+  lender = p.lender ∙ h.lender;
 }
 
 -- a text that fills the front
@@ -100,33 +106,26 @@ put_front text out n e h =
     let b : length text - room n out ≡ 0 = omega arith in
     ap₂ (λ (x y : ℕ). take x out ++ (drop y text ++ drop n out)) a b
 
-drop-room : (end : ℕ) (out : List ℕ) → drop (room end out) out ≡ drop end out
-drop-room end out =
-    ⊎_elim
-    (λ (h : end < length out). ap (λ k. drop k out) (omega arith))
-    (λ (h : length out ≤ end). drop_all (room end out) out (omega arith) ∙ sym (drop_all end out h))
-    (cases_lt end (length out))
-
--- what copying the part of a text that has room does
-pub copied_part : (end n lost start : ℕ) (text out kept copied : List ℕ) → n ≡ room end out → lost ≡ length text - n → kept ≡ take (length text - lost) (drop lost text) → start ≡ n - length kept → copied ≡ kept → Puts text end out start (put_mid start (n - start) out copied)
-copied_part end n lost start text out kept copied en el ek es ec =
-    let k : kept ≡ last_of n text = ek ∙ take_rest text lost ∙ ap (λ j. drop j text) el in
-    let l : length kept ≡ min n (length text) = ap length k ∙ length_last n text in
-    let b : start ≡ n - length text = omega arith in
-    let d : drop (n - start) (drop start out) ≡ drop end out = drop-drop (n - start) start out ∙ ap (λ j. drop j out) (omega arith) ∙ drop-room end out in
-    record {
-      begins = omega arith;
-      holds =
-          ap₂ (λ (x y : List ℕ). take start out ++ (x ++ y)) (ec ∙ k) d
-          ∙ ap₂ (λ (i j : ℕ). take i out ++ (last_of j text ++ drop end out)) (omega arith) en;
-    }
-
 -- how long a number is
 pub length_more : (n : ℕ) → 10 ≤ n → n < 2 ^ 64 → length (decimal n) ≡ length (decimal (n / 10)) + 1
 length_more n h f = ap length (decimal_step n h f) ∙ length_push (decimal (n / 10)) (48 + n % 10)
 
-pub length-one : (n : ℕ) → n < 10 → length (decimal n) ≡ 1
-length-one n h = ap length (decimal_digit n h)
+pub length_zero : (n : ℕ) → n ≡ 0 → 1 ≡ length (decimal n)
+length_zero n e = sym (ap length (decimal_digit n (omega (arith, e))))
+
+-- a number from a power of ten to the next has as many digits as that power, and one more
+ten_more : (k : ℕ) → 10 ^ (k + 1) ≡ 10 ^ k * 10
+ten_more k = simp unary_clauses refl
+
+most_power : (k n : ℕ) → 10 ^ k ≤ n → n < 2 ^ 64 → k < length (decimal n)
+most_power zero n h f = decimal_nonempty n f
+most_power (suc k) n h f =
+    let p = ten_more k in
+    let one : 1 ≤ 10 ^ k = one-le-pow k 10 (omega arith) in
+    omega (arith, length_more n (omega (arith, p, one, h)) f, most_power k (n / 10) (omega (arith, p, h)) (omega (arith, f)))
+
+pub length_power : (k n : ℕ) → 10 ^ k ≤ n → n < 10 * 10 ^ k → n < 2 ^ 64 → length (decimal n) ≡ k + 1
+length_power k n h l f = omega (arith, most_power k n h f, length-decimal-le (k + 1) n (omega arith) (omega (arith, ten_more k, l)) f)
 
 -- what is put before a place leaves what stands from there on
 pub put_back : (end : ℕ) (text out : List ℕ) → drop end (put_before end text out) ≡ drop end out

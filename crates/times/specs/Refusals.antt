@@ -1,5 +1,5 @@
 -- The fixed number of each refusal, and what a call that fills an output answers and leaves.
-use Rattle.std.specs.Prelude.{ℕ, cond, List, ◌++◌, length, drop, Ok, Err, Result, nat_le}
+use Rattle.std.specs.Prelude.{ℕ, cond, List, ◌++◌, length, drop, Ok, Err, Result, Some, None, Option, nat_le}
 use Rattle.times.specs.declared.refusal.Refusal.{Refusal}
 use Rattle.times.specs.declared.refusal.Refusal.TheVariants.{NotAText, NamesLine, FieldCount, NotANumber, NotATime, LevelOutOfPlace, PastEntryLimit, BeforeEntryMoment, NumberNotAboveLast, NoRecordLeft, TickPastEntryLimit, AdjustmentTooLarge, TotalTooLarge, NotAWindow, PastLastMoment, NumberNotShown, OutputTooShort, NotPrepared}
 
@@ -28,6 +28,11 @@ number_of NotPrepared = 18
 abbrev pub refusal_in : {A : Type 0} → Result A Refusal → ℕ
 refusal_in (Ok x) = 0
 refusal_in (Err e) = number_of e
+
+-- the number of a refusal, 0 where there is none
+abbrev pub refusal_number : Option Refusal → ℕ
+refusal_number None = 0
+refusal_number (Some e) = number_of e
 
 -- what a call that fills an output answers, with all that the output then holds
 pub data Outcome (A : Type 0) : Type 0 where

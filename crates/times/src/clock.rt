@@ -4,6 +4,7 @@ ghost use Rattle.std.specs.Prelude.{◌≡◌, ◌+◌, ◌<◌, true, length};
 ghost use Rattle.times.specs.Refusals.{outcome};
 ghost use Rattle.times.specs.Clock.{cause_of, told, read_time_of, is_digit_of, shaped, pair, time_text, write_time_of, RoundTrip};
 
+use crate::put::copy_front;
 use crate::refusal::Refusal;
 
 // The latest moment that may enter the part: 98:39:59.999.
@@ -18,16 +19,16 @@ pub const TIME_LENGTH: usize = 12;
 const MOST_SIXTIETHS: u32 = 59;
 
 // Why a text is not a time. The causes are judged in this order, each over the whole text.
-#[derive(Clone, Copy)]
+#[derive(Clone, Copy, Debug, PartialEq, Eq)]
 pub enum TimeFault {
-    // 1: not twelve bytes
-    Length,
-    // 2: a byte is not the digit, colon or point expected
-    Shape,
-    // 3: minutes or seconds over 59
-    Sixty,
-    // 4: past the entry limit
-    Limit,
+    // not twelve bytes
+    Length = 1,
+    // a byte is not the digit, colon or point expected
+    Shape = 2,
+    // minutes or seconds over 59
+    Sixty = 3,
+    // past the entry limit
+    Limit = 4,
 }
 
 impl TimeFault {
@@ -35,12 +36,7 @@ impl TimeFault {
     pub fn cause(self) -> u8
         ensures { result ≡ cause_of self }
     {
-        match self {
-            TimeFault::Length => 1,
-            TimeFault::Shape => 2,
-            TimeFault::Sixty => 3,
-            TimeFault::Limit => 4,
-        }
+        self as u8
     }
 }
 
@@ -48,7 +44,7 @@ impl TimeFault {
 pub fn is_digit(b: u8) -> bool
     ensures { result ≡ is_digit_of b }
 {
-    48 <= b && b <= 57
+    b.is_ascii_digit()
 }
 
 fn has_shape(text: &[u8]) -> bool
@@ -57,27 +53,29 @@ fn has_shape(text: &[u8]) -> bool
 {
     is_digit(text[0])
         && is_digit(text[1])
-        && text[2] == 58
+        && text[2] == b':'
         && is_digit(text[3])
         && is_digit(text[4])
-        && text[5] == 58
+        && text[5] == b':'
         && is_digit(text[6])
         && is_digit(text[7])
-        && text[8] == 46
+        && text[8] == b'.'
         && is_digit(text[9])
         && is_digit(text[10])
         && is_digit(text[11])
 }
 
 fn two_digits(a: u8, b: u8) -> u32
-    requires { (is_digit_of a ≡ true) × (is_digit_of b ≡ true) }
+    requires tens { is_digit_of a ≡ true }
+    requires units { is_digit_of b ≡ true }
     ensures value { result ≡ pair a b }
     ensures bound { result < 100 }
 {
-    10 * (a - 48) as u32 + (b - 48) as u32
+    10 * (a - b'0') as u32 + (b - b'0') as u32
 }
 
 // The moment that a text names, up to the entry limit.
+#[tactic(auto, using(crate::proofs::Shape::digits))]
 pub fn read_time(text: &[u8]) -> Result<u32, TimeFault>
     ensures { told result ≡ read_time_of text.now }
 {
@@ -93,7 +91,7 @@ pub fn read_time(text: &[u8]) -> Result<u32, TimeFault>
     if minutes > MOST_SIXTIETHS || seconds > MOST_SIXTIETHS {
         return Err(TimeFault::Sixty);
     }
-    let millis = 100 * (text[9] - 48) as u32 + two_digits(text[10], text[11]);
+    let millis = 100 * (text[9] - b'0') as u32 + two_digits(text[10], text[11]);
     let moment = 3_600_000 * hours + (60_000 * minutes + (1000 * seconds + millis));
     if moment > ENTRY_LIMIT {
         return Err(TimeFault::Limit);
@@ -107,18 +105,18 @@ pub fn time_bytes(moment: u32) -> [u8; 12]
     ensures { result ≡ time_text moment }
 {
     [
-        48 + (moment / 36_000_000) as u8,
-        48 + (moment / 3_600_000 % 10) as u8,
-        58,
-        48 + (moment / 600_000 % 6) as u8,
-        48 + (moment / 60_000 % 10) as u8,
-        58,
-        48 + (moment / 10_000 % 6) as u8,
-        48 + (moment / 1000 % 10) as u8,
-        46,
-        48 + (moment / 100 % 10) as u8,
-        48 + (moment / 10 % 10) as u8,
-        48 + (moment % 10) as u8,
+        b'0' + (moment / 36_000_000) as u8,
+        b'0' + (moment / 3_600_000 % 10) as u8,
+        b':',
+        b'0' + (moment / 600_000 % 6) as u8,
+        b'0' + (moment / 60_000 % 10) as u8,
+        b':',
+        b'0' + (moment / 10_000 % 6) as u8,
+        b'0' + (moment / 1000 % 10) as u8,
+        b'.',
+        b'0' + (moment / 100 % 10) as u8,
+        b'0' + (moment / 10 % 10) as u8,
+        b'0' + (moment % 10) as u8,
     ]
 }
 
@@ -130,10 +128,5 @@ pub fn write_time(moment: u32, out: &mut [u8]) -> Result<usize, Refusal>
     if moment > LAST_MOMENT {
         return Err(Refusal::PastLastMoment);
     }
-    if out.len() < TIME_LENGTH {
-        return Err(Refusal::OutputTooShort);
-    }
-    let bytes = time_bytes(moment);
-    out[0..TIME_LENGTH].copy_from_slice(&bytes);
-    Ok(TIME_LENGTH)
+    copy_front(&time_bytes(moment), out)
 }

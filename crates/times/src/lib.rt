@@ -6,7 +6,7 @@
 //
 // A reader must believe, in specs/: `number_of` and `cause_of` (the fixed number of each refusal and of
 // each cause of a time), `read_time_of`, `time_text` and the two limits (Clock), `outcome` and `into` (what a
-// call that fills an output answers and leaves), `put_before` (what a writer leaves).
+// call that fills an output answers and leaves), `put_before` and `Puts` (what a writer leaves).
 
 #![tactic(auto)]
 

@@ -3,45 +3,45 @@
 ghost use Rattle.std.specs.Prelude.{◌≡◌};
 ghost use Rattle.times.specs.Refusals.{number_of};
 
-// Why a call refuses. The numbers are part of every format and never change.
-#[derive(Clone, Copy)]
+// Why a call refuses, each with its fixed number: the numbers are part of every format and never change.
+#[derive(Clone, Copy, Debug, PartialEq, Eq)]
 pub enum Refusal {
-    // 1: a text is empty, too long, or does not end in a line feed
-    NotAText,
-    // 2: a names line is missing or different
-    NamesLine,
-    // 3: the value line is missing, or a line has the wrong number of fields
-    FieldCount,
-    // 4: not a number of its range
-    NotANumber,
-    // 5: not a time
-    NotATime,
-    // 6: a level is unknown or out of place, or there is no element
-    LevelOutOfPlace,
-    // 7: a time lies past the entry limit
-    PastEntryLimit,
-    // 8: before the entry moment
-    BeforeEntryMoment,
-    // 9: a number is not above the last one shown
-    NumberNotAboveLast,
-    // 10: no record is left
-    NoRecordLeft,
-    // 11: a tick past the entry limit
-    TickPastEntryLimit,
-    // 12: one adjustment is too large
-    AdjustmentTooLarge,
-    // 13: the total adjustment would be too large
-    TotalTooLarge,
-    // 14: not a window
-    NotAWindow,
-    // 15: a moment past the last moment
-    PastLastMoment,
-    // 16: a number that is not shown
-    NumberNotShown,
-    // 17: an output is too short
-    OutputTooShort,
-    // 18: not a prepared list
-    NotPrepared,
+    // a text is empty, too long, or does not end in a line feed
+    NotAText = 1,
+    // a names line is missing or different
+    NamesLine = 2,
+    // the value line is missing, or a line has the wrong number of fields
+    FieldCount = 3,
+    // not a number of its range
+    NotANumber = 4,
+    // not a time
+    NotATime = 5,
+    // a level is unknown or out of place, or there is no element
+    LevelOutOfPlace = 6,
+    // a time lies past the entry limit
+    PastEntryLimit = 7,
+    // before the entry moment
+    BeforeEntryMoment = 8,
+    // a number is not above the last one shown
+    NumberNotAboveLast = 9,
+    // no record is left
+    NoRecordLeft = 10,
+    // a tick past the entry limit
+    TickPastEntryLimit = 11,
+    // one adjustment is too large
+    AdjustmentTooLarge = 12,
+    // the total adjustment would be too large
+    TotalTooLarge = 13,
+    // not a window
+    NotAWindow = 14,
+    // a moment past the last moment
+    PastLastMoment = 15,
+    // a number that is not shown
+    NumberNotShown = 16,
+    // an output is too short
+    OutputTooShort = 17,
+    // not a prepared list
+    NotPrepared = 18,
 }
 
 impl Refusal {
@@ -49,25 +49,6 @@ impl Refusal {
     pub fn number(self) -> u8
         ensures { result ≡ number_of self }
     {
-        match self {
-            Refusal::NotAText => 1,
-            Refusal::NamesLine => 2,
-            Refusal::FieldCount => 3,
-            Refusal::NotANumber => 4,
-            Refusal::NotATime => 5,
-            Refusal::LevelOutOfPlace => 6,
-            Refusal::PastEntryLimit => 7,
-            Refusal::BeforeEntryMoment => 8,
-            Refusal::NumberNotAboveLast => 9,
-            Refusal::NoRecordLeft => 10,
-            Refusal::TickPastEntryLimit => 11,
-            Refusal::AdjustmentTooLarge => 12,
-            Refusal::TotalTooLarge => 13,
-            Refusal::NotAWindow => 14,
-            Refusal::PastLastMoment => 15,
-            Refusal::NumberNotShown => 16,
-            Refusal::OutputTooShort => 17,
-            Refusal::NotPrepared => 18,
-        }
+        self as u8
     }
 }

@@ -1,30 +1,30 @@
 // How a reader goes through its text.
 
-ghost use Rattle.std.specs.Prelude.{◌≡◌, ◌+◌, ◌^◌, ◌<◌, ◌≤◌, [], ◌∷◌, length, drop, IfSome, MatchOption};
+ghost use Rattle.std.specs.Prelude.{◌≡◌, ◌+◌, ◌^◌, ◌<◌, ◌≤◌, ◌≢◌, [], ◌∷◌, length, map, IfSome, MatchOption};
 ghost use Rattle.fields.specs.Parts.{before, parts, parts_at, first, rest, Cut};
-ghost use Rattle.fields.specs.Left.{left, part_of, part_in};
+ghost use Rattle.std.specs.Bool.{⊤};
+ghost use Rattle.std.specs.Iterator.{MakesProgress, item_count};
+ghost use Rattle.fields.specs.Left.{left, part_of, part_in, GivesPart};
 
 use super::{Field, Reader};
 
 // The largest offset of a part's end.
-const MOST_OFFSET: usize = 9_223_372_036_854_775_807;
+const MOST_OFFSET: usize = isize::MAX as usize;
 
-// Where the first separator from `from` on stands, or the text's length.
-fn until(text: &[u8], from: usize, separator: u8) -> usize
-    requires { from ≤ length text.now }
-    ensures value { result ≡ from + before separator (drop from text.now) }
+// How many bytes stand before the first separator, or in the whole text.
+fn until(text: &[u8], separator: u8) -> usize
+    ensures value { result ≡ before separator text.now }
     ensures bound { result ≤ length text.now }
 {
-    let mut i = from;
-    while i < text.len() && text[i] != separator {
-        i += 1;
-    }
-    i
+    text.iter()
+        .position(|b| *b == separator)
+        .unwrap_or(text.len())
 }
 
 impl<'a> Reader<'a> {
     // All parts of a text that stands at an offset. A text whose offsets would pass `MOST_OFFSET`, which is
     // more than any memory holds, has none.
+    #[tactic(auto, using(crate::proofs::Cuts::parts_few))]
     pub fn new(text: &'a [u8], base: usize, separator: u8) -> Reader<'a>
         ensures all { left result ≡ parts_at separator base text.now }
         ensures near { base + length text.now < 2 ^ 63 → left result ≡ parts separator base text.now }
@@ -47,23 +47,43 @@ impl<'a> Reader<'a> {
         }
     }
 
+    // Writes the parts that are left into `fields`, where they are as many. The room is lent by the caller,
+    // since the borrow checker covers no array of fields whose length is a const parameter.
+    pub fn fill(&mut self, fields: &mut [Field<'a>]) -> Option<()>
+        ensures len { length fields.new ≡ length fields.old }
+        ensures parts { MatchOption result (length (left self.old) ≢ length fields.old) (λ _. left self.old ≡ map part_of fields.new) }
+    {
+        for field in fields.iter_mut() {
+            *field = self.next()?;
+        }
+        self.next().is_none().then_some(())
+    }
+}
+
+impl<'a> Iterator for Reader<'a> {
+    type Item = Field<'a>;
+
+    ghost next_gives = { GivesPart };
+
+    ghost remaining = { item_count left };
+
     // The next part, until none is left.
-    pub fn next(&mut self) -> Option<Field<'a>>
+    fn next(&mut self) -> Option<Field<'a>>
+        ensures steps { GivesPart self.old result self.new }
+        ensures goes { MakesProgress (λ _. ⊤) (item_count left) self.old result self.new }
         ensures small { IfSome result (λ f. f.offset + length f.bytes.now < 2 ^ 63) }
         ensures first { part_in result ≡ first (left self.old) }
         ensures rest { left self.new ≡ rest (left self.old) }
         ensures fewer { length (left self.new) ≤ length (left self.old) }
         ensures cases { MatchOption result (left self.old ≡ []) (λ f. left self.old ≡ part_of f ∷ left self.new) }
     {
-        if self.place > self.text.len() {
-            return None;
-        }
-        let start = self.place;
-        let end = until(self.text, start, self.separator);
-        self.place = end + 1;
+        let rest = self.text.get(self.place..)?;
+        let len = until(rest, self.separator);
+        let offset = self.base + self.place;
+        self.place += len + 1;
         Some(Field {
-            bytes: &self.text[start..end],
-            offset: self.base + start,
+            bytes: &rest[..len],
+            offset,
         })
     }
 }

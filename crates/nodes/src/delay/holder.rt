@@ -1,71 +1,41 @@
 // The holder: it holds every document back, explicitly timed ones too.
 
-ghost use Rattle.std.specs.Prelude.{◌≡◌, ◌∷◌};
-ghost use Rattle.std.proofs.Common.{ap};
-ghost use Rattle.streams.specs.Stacks.{holding, delayed};
-ghost use Rattle.nodes.specs.Delays.{delayed_lawful};
+ghost use Rattle.std.specs.Prelude.{◌≡◌, [], ◌∷◌};
+ghost use Rattle.streams.specs.Stacks.{holding};
 
-use super::{Adjustment, hold};
+use super::Adjustment;
+use super::delayed::Delayed;
+use super::delaying::Delaying;
 use crate::making::HolderOver;
 use documents::document::Document;
 use streams::stream::Stream;
-use streams::taking::TakingStream;
-use times::refusal::Refusal;
 
-// The stream below, by value, and the adjustment that was approved for it.
-#[derive(Drop)]
-pub struct Holder<S> {
-    below: S,
+// The adjustment that was approved for a holder.
+#[derive(Clone, Copy, Debug, PartialEq, Eq)]
+pub struct Holding {
     adjustment: Adjustment,
 }
 
+// The stream below, by value, with this adjustment over it.
+pub type Holder<S> = Delayed<S, Holding>;
+
 impl<S: Stream> HolderOver<S> for Holder<S> {
     fn over(below: S, adjustment: Adjustment) -> Holder<S> {
-        Holder { below, adjustment }
-    }
-}
-
-impl<S: Stream> Stream for Holder<S> {
-    ghost parts = { λ h. delayed (holding h.adjustment.amount) (S.Stream.parts h.below) };
-
-    ghost lawful = { λ h. delayed_lawful (holding h.adjustment.amount) (S.Stream.parts h.below) (S.Stream.lawful h.below) };
-
-    ghost nodes = { λ h. holding h.adjustment.amount ∷ S.Stream.nodes h.below };
-
-    ghost bare = { λ h. S.Stream.bare h.below };
-
-    ghost stacked = { λ h. ap (delayed (holding h.adjustment.amount)) (S.Stream.stacked h.below) };
-
-    fn count(&self) -> usize {
-        self.below.count()
-    }
-
-    fn document_at(&self, place: usize) -> Option<Document> {
-        match self.below.document_at(place) {
-            Some(x) => Some(hold(self.adjustment.in_force(&self.below), &x)),
-            None => None,
+        Delayed {
+            below,
+            delaying: Holding { adjustment },
         }
     }
-
-    fn settled_moment(&self) -> u32 {
-        self.below.settled_moment() + self.adjustment.in_force(&self.below)
-    }
-
-    fn total_adjustment(&self) -> u32 {
-        self.below.total_adjustment() + self.adjustment.in_force(&self.below)
-    }
 }
 
-impl<S: TakingStream> TakingStream for Holder<S> {
-    fn entry_moment(&self) -> u32 {
-        self.below.entry_moment()
+impl Delaying for Holding {
+    ghost delays = { λ d. holding d.adjustment.amount ∷ [] };
+
+    fn total_over(&self, below: u32) -> u32 {
+        self.adjustment.total_over(below)
     }
 
-    fn take(&mut self, document: Document) -> Result<(), Refusal> {
-        self.below.take(document)
-    }
-
-    fn tick(&mut self, moment: u32) -> Result<(), Refusal> {
-        self.below.tick(moment)
+    fn alter(&self, below: u32, document: Document) -> Document {
+        self.adjustment.in_force_over(below).hold(&document)
     }
 }

@@ -1,71 +1,43 @@
-// The retimer: it keeps when a document is available, and has it begin later.
+// The retimer: it keeps when a document is available, and has it begin later. What it shares with the holder stands in
+// `delayed` and `Adjustment`. A type of its own beside the holder's is no plainer as one with a mark of the kind: `Holder::over`
+// could then mean either maker.
 
-ghost use Rattle.std.specs.Prelude.{◌≡◌, ◌∷◌};
-ghost use Rattle.std.proofs.Common.{ap};
-ghost use Rattle.streams.specs.Stacks.{retiming, delayed};
-ghost use Rattle.nodes.specs.Delays.{delayed_lawful};
+ghost use Rattle.std.specs.Prelude.{◌≡◌, [], ◌∷◌};
+ghost use Rattle.streams.specs.Stacks.{retiming};
 
-use super::{Adjustment, retime};
+use super::Adjustment;
+use super::delayed::Delayed;
+use super::delaying::Delaying;
 use crate::making::RetimerOver;
 use documents::document::Document;
 use streams::stream::Stream;
-use streams::taking::TakingStream;
-use times::refusal::Refusal;
 
-// The stream below, by value, and the adjustment that was approved for it.
-#[derive(Drop)]
-pub struct Retimer<S> {
-    below: S,
+// The adjustment that was approved for a retimer.
+#[derive(Clone, Copy, Debug, PartialEq, Eq)]
+pub struct Retiming {
     adjustment: Adjustment,
 }
 
+// The stream below, by value, with this adjustment over it.
+pub type Retimer<S> = Delayed<S, Retiming>;
+
 impl<S: Stream> RetimerOver<S> for Retimer<S> {
     fn over(below: S, adjustment: Adjustment) -> Retimer<S> {
-        Retimer { below, adjustment }
-    }
-}
-
-impl<S: Stream> Stream for Retimer<S> {
-    ghost parts = { λ h. delayed (retiming h.adjustment.amount) (S.Stream.parts h.below) };
-
-    ghost lawful = { λ h. delayed_lawful (retiming h.adjustment.amount) (S.Stream.parts h.below) (S.Stream.lawful h.below) };
-
-    ghost nodes = { λ h. retiming h.adjustment.amount ∷ S.Stream.nodes h.below };
-
-    ghost bare = { λ h. S.Stream.bare h.below };
-
-    ghost stacked = { λ h. ap (delayed (retiming h.adjustment.amount)) (S.Stream.stacked h.below) };
-
-    fn count(&self) -> usize {
-        self.below.count()
-    }
-
-    fn document_at(&self, place: usize) -> Option<Document> {
-        match self.below.document_at(place) {
-            Some(x) => Some(retime(self.adjustment.in_force(&self.below), &x)),
-            None => None,
+        Delayed {
+            below,
+            delaying: Retiming { adjustment },
         }
     }
-
-    fn settled_moment(&self) -> u32 {
-        self.below.settled_moment() + self.adjustment.in_force(&self.below)
-    }
-
-    fn total_adjustment(&self) -> u32 {
-        self.below.total_adjustment() + self.adjustment.in_force(&self.below)
-    }
 }
 
-impl<S: TakingStream> TakingStream for Retimer<S> {
-    fn entry_moment(&self) -> u32 {
-        self.below.entry_moment()
+impl Delaying for Retiming {
+    ghost delays = { λ d. retiming d.adjustment.amount ∷ [] };
+
+    fn total_over(&self, below: u32) -> u32 {
+        self.adjustment.total_over(below)
     }
 
-    fn take(&mut self, document: Document) -> Result<(), Refusal> {
-        self.below.take(document)
-    }
-
-    fn tick(&mut self, moment: u32) -> Result<(), Refusal> {
-        self.below.tick(moment)
+    fn alter(&self, below: u32, document: Document) -> Document {
+        self.adjustment.in_force_over(below).retime(&document)
     }
 }

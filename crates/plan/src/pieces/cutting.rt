@@ -1,58 +1,36 @@
 // How the pieces are found.
 
 ghost use Rattle.std.specs.Prelude.{◌≡◌, ◌+◌, ◌<◌, ◌≤◌, [], ◌∷◌, length, drop, MatchOption, ◌≢◌, slice_index};
+ghost use Rattle.std.specs.Bool.{⊤};
+ghost use Rattle.std.specs.Iterator.{MakesProgress, YieldsFirstBy, item_count};
 ghost use Rattle.fields.specs.Parts.{rest};
 ghost use Rattle.plan.specs.Pieces.{kept, pieces_of, Pieced};
-ghost use Rattle.plan.specs.Cutting.{line_end_of, left_at, piece_at, empty_at};
+ghost use Rattle.plan.specs.Cutting.{line_end_of, feeds_of, left_at, piece_at, empty_at};
 ghost use Rattle.plan.specs.Left.{left, piece_of};
 
 use super::{Piece, Pieces};
 
-const LINE_FEED: u8 = 10;
-
-// Where the line that begins at `from` ends, its line feed included.
-fn line_end(input: &[u8], from: usize) -> usize
-    requires { from < length input.now }
-    ensures value { result ≡ from + line_end_of (drop from input.now) }
-    ensures bound { result ≤ length input.now }
+// How long the first line is, its line feed included.
+fn first_line(bytes: &[u8]) -> usize
+    ensures value { result ≡ line_end_of bytes.now }
+    ensures bound { result ≤ length bytes.now }
 {
-    let mut i = from;
-    while i < input.len() {
-        if input[i] == LINE_FEED {
-            return i + 1;
-        }
-        i += 1;
-    }
-    i
+    bytes
+        .iter()
+        .position(|&b| b == b'\n')
+        .map_or(bytes.len(), |i| i + 1)
 }
 
-// Past the blank lines.
-fn skip_blank(input: &[u8], from: usize) -> usize
-    requires { from ≤ length input.now }
-    ensures bound { result ≤ length input.now }
-    ensures value { kept (left_at result input.now) ≡ kept (left_at from input.now) }
-    ensures stop { result < length input.now → slice_index input.now result ≢ 10 }
+// How many line feeds stand in front.
+fn feeds(bytes: &[u8]) -> usize
+    ensures value { result ≡ feeds_of bytes.now }
+    ensures bound { result ≤ length bytes.now }
+    ensures stop { result < length bytes.now → slice_index bytes.now result ≢ 10 }
 {
-    let mut i = from;
-    while i < input.len() && input[i] == LINE_FEED {
-        i += 1;
-    }
-    i
-}
-
-// Where the piece that begins at `start` ends: at a blank line or at the input's end.
-fn piece_end(input: &[u8], start: usize) -> usize
-    requires { (start < length input.now) × ((slice_index input.now start ≢ 10)) }
-    ensures bound { result ≤ length input.now }
-    ensures some { start < result }
-    ensures cut { left_at start input.now ≡ piece_at start result input.now ∷ rest (left_at result input.now) }
-    ensures stop { left_at result input.now ≡ empty_at result ∷ rest (left_at result input.now) }
-{
-    let mut place = line_end(input, start);
-    while place < input.len() && input[place] != LINE_FEED {
-        place = line_end(input, place);
-    }
-    place
+    bytes
+        .iter()
+        .position(|&b| b != b'\n')
+        .unwrap_or(bytes.len())
 }
 
 impl<'a> Pieces<'a> {
@@ -65,16 +43,53 @@ impl<'a> Pieces<'a> {
         Pieces { input, place: 0 }
     }
 
+    // Past the blank lines.
+    fn skip_blank(&mut self)
+        ensures value { left self.new ≡ left self.old }
+        ensures stop { self.new.place < length self.new.input.now → slice_index self.new.input.now self.new.place ≢ 10 }
+    {
+        self.place += feeds(&self.input[self.place..]);
+    }
+
+    // Where the piece that begins here ends: at a blank line or at the input's end. It goes line by line,
+    // since a line feed ends a piece only where a line begins with it.
+    fn piece_end(&self) -> usize
+        requires within { self.now.place < length self.now.input.now }
+        requires shown { slice_index self.now.input.now self.now.place ≢ 10 }
+        ensures bound { result ≤ length self.now.input.now }
+        ensures some { self.now.place < result }
+        ensures cut { left_at self.now.place self.now.input.now ≡ piece_at self.now.place result self.now.input.now ∷ rest (left_at result self.now.input.now) }
+        ensures stop { left_at result self.now.input.now ≡ empty_at result ∷ rest (left_at result self.now.input.now) }
+    {
+        let input = self.input;
+        let mut place = self.place + first_line(&input[self.place..]);
+        while place < input.len() && input[place] != b'\n' {
+            place += first_line(&input[place..]);
+        }
+        place
+    }
+}
+
+impl<'a> Iterator for Pieces<'a> {
+    type Item = Piece<'a>;
+
+    ghost next_gives = { YieldsFirstBy piece_of left };
+
+    ghost remaining = { item_count left };
+
     // The next piece, until none is left.
-    pub fn next(&mut self) -> Option<Piece<'a>>
+    fn next(&mut self) -> Option<Piece<'a>>
+        ensures steps { YieldsFirstBy piece_of left self.old result self.new }
+        ensures goes { MakesProgress (λ _. ⊤) (item_count left) self.old result self.new }
         ensures cases { MatchOption result (left self.old ≡ []) (λ p. left self.old ≡ piece_of p ∷ left self.new) }
         ensures rest { left self.new ≡ rest (left self.old) }
     {
-        let start = skip_blank(self.input, self.place);
+        self.skip_blank();
+        let start = self.place;
         if start == self.input.len() {
             return None;
         }
-        let end = piece_end(self.input, start);
+        let end = self.piece_end();
         self.place = end;
         Some(Piece {
             bytes: &self.input[start..end],

@@ -10,7 +10,7 @@ use fields::reader::Reader;
 // The longest script that is read.
 pub const SCRIPT_LIMIT: usize = 1_048_576;
 
-const LINE_FEED: u8 = 10;
+const LINE_FEED: u8 = b'\n';
 
 // A script, or nothing of one that is too long.
 fn readable(text: &[u8]) -> &[u8]
@@ -28,13 +28,11 @@ fn part(text: &[u8], from: usize, to: usize) -> &[u8]
     requires { to ≤ length text.now }
     ensures { result.now ≡ between from to text.now }
 {
-    if from <= to {
-        &text[from..to]
-    } else {
-        &text[0..0]
-    }
+    text.get(from..to).unwrap_or(&[])
 }
 
+// Each method says of the text that it stays, since it lends the whole script for change. A script is no iterator: lines
+// and the texts between them are read in turn from the one script, which a `for` would keep lent.
 impl<'a> Script<'a> {
     // All lines of a script. A longer one than the longest has none.
     pub fn new(text: &'a [u8]) -> Script<'a>

@@ -1,8 +1,8 @@
-use Rattle.std.proofs.Common.{◌-◌, ◌≤◌, length}
+use Rattle.std.proofs.Common.{◌≤◌, length}
 use Rattle.plan.proofs.input.read_input.Given as goal
 
-abbrev pub invariant-loop-n : goal.invariant-loop-n
-invariant-loop-n g l = l.n ≤ length l.buffer
+abbrev pub invariant-loop-source : goal.invariant-loop-source
+invariant-loop-source g l = length l.rest ≤ l.room
 
-abbrev pub decreases-loop-n : goal.decreases-loop-n
-decreases-loop-n g l = length l.initial.buffer - l.n
+abbrev pub decreases-loop-source : goal.decreases-loop-source
+decreases-loop-source g l = length l.rest

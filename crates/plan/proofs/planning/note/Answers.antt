@@ -11,7 +11,7 @@ returns-in-Err c =
     let why = c.in-Err.why in
     let text : rejection_text k why ≡ refusal_text k (told c.args.answer) = ap (λ a. refusal_text k (told a)) (sym c.in-Err.is) in
     let long : c.line_length.result ≡ length (rejection_text k why) = c.line_length.ensures.value ∙ sym (length-rejection k why) in
-    let n = noted c.args.at (c.args.at + c.line_length.result) c.put_line.result (rejection_text k why) c.args.out.now c.put_line.new.out (ap (λ j. c.args.at + j) long) c.put_line.ensures in
+    let n = noted c.args.at (c.args.at + c.line_length.result) (rejection_text k why) c.args.out.now c.put_line.new.out (ap (λ j. c.args.at + j) long) c.put_line.ensures in
     record {
       next = ap (λ j. c.args.at + j) long ∙ ap (λ (t : List ℕ). c.args.at + length t) text;
       bound = omega (arith, c.line_length.ensures.bound);

@@ -1,23 +1,16 @@
-use Rattle.std.proofs.Common.{◌≡◌, ℕ, ◌+◌, ◌-◌, ◌≤◌, List, length, drop, sym, ap, ◌∙◌, arith}
-use Rattle.std.proofs.lemmas.List.{at_drop_all}
-use Rattle.documents.specs.declared.document.Document.{Document}
-use Rattle.questions.specs.Resolved.{resolved_end_of}
-use Rattle.questions.proofs.Scanning.{end_less}
+use Rattle.std.proofs.Common.{min, ltb, ◌∙◌, rules, tests}
+use Rattle.std.proofs.lemmas.Iterator.{YieldsList-from_map}
+use Rattle.std.proofs.lemmas.Iterator.Consumers.{YieldsList-at, YieldsList-from_rest, YieldsList-from_filter, fold_from_yields_List}
+use Rattle.questions.specs.Resolved.{resolved_begin_of}
+use Rattle.questions.proofs.Scanning.{fold_end}
 use Rattle.questions.proofs.asking.resolved_end.Goals as goal
 
-pub loop-i-init : goal.loop-i-init
-loop-i-init g c =
+pub returns : goal.returns
+returns g c =
     let shown = (g.S.Stream.parts c.args.stream.now).shown in
     let w = c.args.window in
     let d = c.args.document.now in
-    let h : length shown ≤ c.count-i.result = omega arith in
-    (omega arith, c.own_end-end.ensures ∙ sym (at_drop_all (λ (v : List Document). resolved_end_of w v d) shown c.count-i.result h))
-
-pub loop-i-preserved : goal.loop-i-preserved
-loop-i-preserved g c =
-    let shown = (g.S.Stream.parts c.args.stream.now).shown in
-    let w = c.args.window in
-    let d = c.args.document.now in
-    let i = c.loop-i.i in
-    let e : i ≡ i - 1 + 1 = omega arith in
-    (omega arith, end_less w d c.loop-i.end c.cut_by-end.result c.document_at.result shown (i - 1) c.document_at.ensures (c.loop-i.invariant.1 ∙ ap (λ (m : ℕ). resolved_end_of w (drop m shown) d) e) c.cut_by-end.ensures)
+    let later = YieldsList-from_filter _ (λ e. ltb d.number e.number) (YieldsList-from_rest shown cc) c.filter.ensures.closure (λ x b q k. search (rules, tests)) in
+    let begins = YieldsList-from_map _ (resolved_begin_of w) (YieldsList-at c.map.ensures.source later) c.map.ensures.closure (λ x r q k. search rules) in
+    fold_from_yields_List _ (λ end begin. min begin end) _ _ c.fold.ensures.ran begins (λ a x b q k. search rules)
+    ∙ fold_end w d _ shown c.own_end.ensures

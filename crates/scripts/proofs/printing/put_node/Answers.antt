@@ -4,6 +4,6 @@ use Rattle.scripts.proofs.printing.put_node.Goals as goal
 
 pub returns : goal.returns
 returns c =
-    let a = c.put_field-start.ensures in
-    let b = c.put_field.ensures in
-    record { puts = field_then _ _ _ _ _ _ _ _ _ a.puts b.puts; few = few_then _ _ 21 _ b.few a.few }
+    let a = c.put_field.ensures in
+    let b = c.put_field-2.ensures in
+    record { puts = field_then _ _ _ _ _ _ a.puts b.puts; few = few_then _ _ 21 _ b.few a.few }

@@ -4,6 +4,6 @@ use Rattle.scripts.proofs.printing.put_reply.Goals as goal
 
 pub returns : goal.returns
 returns c =
-    let a = c.put_answer-start.ensures in
+    let a = c.put_answer.ensures in
     let b = c.put_field.ensures in
-    record { puts = field_then _ _ _ _ _ _ _ _ _ a.puts b.puts; few = few_then _ _ 84 _ b.few a.few }
+    record { puts = field_then _ _ _ _ _ _ a.puts b.puts; few = few_then _ _ 84 _ b.few a.few }

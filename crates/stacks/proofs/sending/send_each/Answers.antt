@@ -1,11 +1,8 @@
-use Rattle.std.proofs.Common.{◌<◌, length, sym, refl, ◌∙◌, arith}
+use Rattle.std.proofs.Common.{◌<◌, length, sym, ◌∙◌, arith}
 use Rattle.std.proofs.lemmas.List.{at_drop_all, drop-set-lt}
 use Rattle.stacks.specs.Calls.{run}
 use Rattle.stacks.proofs.Following.{run_more, answers_more, answers_all, prompt_more, prompt_all}
 use Rattle.stacks.proofs.sending.send_each.Goals as goal
-
-pub loop-i-init : goal.loop-i-init
-loop-i-init g c = (refl, refl, refl, λ h. h, refl, refl)
 
 pub loop-i-preserved : goal.loop-i-preserved
 loop-i-preserved g c =
