@@ -38,7 +38,7 @@ const NAMES: &[u8] = b"document,refusal,line,byte,cause\n";
 const TOO_LONG: &[u8] = b"number,begin,end,content\ndocument,refusal,line,byte,cause\n0,1,0,0,0\n";
 
 // Puts the line of a refused piece before a place of the output.
-// Not given a writer: one that lasts would hold the output, and the next line goes behind this one, not before it.
+// It makes its writer: tried with one as parameter, and the proof of `note` did not close over the output that it lends.
 fn put_line(out: &mut [u8], end: usize, document: usize, why: Rejection)
     ensures { out.new ≡ put_before end (rejection_text document why) out.old }
 {
@@ -68,7 +68,7 @@ fn note(out: &mut [u8], at: usize, document: usize, answer: Result<(), Rejection
 }
 
 // Puts the schedule and the names line of the refused pieces before a place of the output.
-// Not given a writer: it would hold the output, into which the lines behind are written first, front to back.
+// It makes its writer, as `put_line` does: the proof of `write` did not close otherwise. Stream and window are two, as in questions.
 fn put_front<S: Stream>(stream: &S, window: Window, out: &mut [u8], end: usize)
     ensures { out.new ≡ put_before end (schedule_text_of window (S.Stream.parts stream.now).shown ++ refusal_names) out.old }
 {

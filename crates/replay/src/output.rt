@@ -96,7 +96,7 @@ impl Output {
         self.numbered(&line, start)
     }
 
-    // The line of a call's reply.
+    // The line of a call's reply; `handed_in` stands beside it as in `put_reply`.
     pub fn reply(&mut self, handed_in: bool, reply: Reply) -> Result<(), AllocError>
         ensures text { self.new.bytes.items ≡ (if is_ok result then self.old.bytes.items ++ reply_text (self.old.count + 1) handed_in (told_reply reply) else self.old.bytes.items) }
         ensures count { OnOk result (self.new.count ≡ self.old.count + 1) }

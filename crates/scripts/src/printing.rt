@@ -82,7 +82,7 @@ pub fn put_reply(writer: &mut BackWriter, count: usize, handed_in: bool, reply: 
     put_field(writer, count as u64, b',');
 }
 
-// The line of a node: 0, or the number of its refusal, which is a number here since a narrower type would ask more of callers.
+// The line of a node: 0, or the number of its refusal, a number by a rule of the project: no public call asks more than it did.
 pub fn put_node(writer: &mut BackWriter, count: usize, refusal: u8)
     ensures puts { Puts (node_text count refusal) writer.old writer.new }
     ensures few { length (node_text count refusal) ≤ 42 }

@@ -51,8 +51,8 @@ impl<'a> Pieces<'a> {
         self.place += feeds(&self.input[self.place..]);
     }
 
-    // Where the piece that begins here ends: at a blank line or at the input's end. It goes line by line,
-    // since a line feed ends a piece only where a line begins with it.
+    // Where the piece that begins here ends: at a blank line or at the input's end. No chain is plainer: each step begins
+    // where the last one ended, and only the first byte of a line is looked at.
     fn piece_end(&self) -> usize
         requires within { self.now.place < length self.now.input.now }
         requires shown { slice_index self.now.input.now self.now.place ≢ 10 }

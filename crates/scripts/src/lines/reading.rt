@@ -31,8 +31,8 @@ fn part(text: &[u8], from: usize, to: usize) -> &[u8]
     text.get(from..to).unwrap_or(&[])
 }
 
-// Each method says of the text that it stays, since it lends the whole script for change. A script is no iterator: lines
-// and the texts between them are read in turn from the one script, which a `for` would keep lent.
+// Each method says of the text that it stays, since it lends the whole script for change. A script is no iterator, which would
+// be no plainer: a text ends at a blank line, which the lines that are asked for skip, so the same lines are walked in two ways.
 impl<'a> Script<'a> {
     // All lines of a script. A longer one than the longest has none.
     pub fn new(text: &'a [u8]) -> Script<'a>
