@@ -1,3 +1,4 @@
 pub mod Cuts
+pub mod Decimal
 pub mod Law
 pub mod Filled

@@ -53,7 +53,7 @@ pub timely_shown : (p : Parts) (l : Lawful p) (i : ℕ) (x : Document) → slice
 timely_shown p l i x e = timely_nth (355199999 + p.total) 0 0 p.shown i x l.ordered e
 
 -- a document stays within the limit that grows with the total
-timely-altered : (k : Delay) (total : ℕ) (x : Document) → timely (355199999 + total) x ≡ true → timely (355199999 + (total + adjustment k total)) (altered k (adjustment k total) x) ≡ true
+pub timely-altered : (k : Delay) (total : ℕ) (x : Document) → timely (355199999 + total) x ≡ true → timely (355199999 + (total + adjustment k total)) (altered k (adjustment k total) x) ≡ true
 timely-altered (holding a) total x h = timely-held _ (355199999 + total) _ x (omega arith) h
 timely-altered (retiming a) total x h = timely-retimed _ (355199999 + total) _ x (omega arith) h
 

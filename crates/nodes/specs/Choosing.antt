@@ -1,11 +1,22 @@
 -- A node that is chosen at run time.
-use Rattle.std.specs.Prelude.{◌≡◌, List, ◌∷◌, Some, None, Option}
+use Rattle.std.specs.Prelude.{◌≡◌, ℕ, List, ◌∷◌, Some, None, Option}
 use Rattle.std.proofs.Common.{ap}
+use Rattle.documents.specs.declared.document.Document.{Document}
 use Rattle.streams.specs.Streams.{Parts, Lawful}
-use Rattle.streams.specs.Stacks.{Delay, delayed, stack}
+use Rattle.streams.specs.Stacks.{Delay, adjustment, altered, delayed, stack}
 use Rattle.nodes.specs.declared.delay.pile.Node.{Node}
 use Rattle.nodes.specs.Delays.{delayed_lawful}
 use Rattle.nodes.specs.Piles.{delay_of}
+
+-- the adjustment in force over a stream of this total
+abbrev pub chosen_by : Option Node → ℕ → ℕ
+chosen_by None total = 0
+chosen_by (Some n) total = adjustment (delay_of n) total
+
+-- a document of the stream below
+abbrev pub chosen_alter : Option Node → ℕ → Document → Document
+chosen_alter None total x = x
+chosen_alter (Some n) total x = altered (delay_of n) (adjustment (delay_of n) total) x
 
 -- the parts over a stream of the parts p
 abbrev pub chosen_parts : Option Node → Parts → Parts

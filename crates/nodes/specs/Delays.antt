@@ -1,7 +1,9 @@
 -- What a node makes of lawful parts is lawful: facts that the nodes' ghost members cite.
 use Rattle.std.specs.Prelude.{◌≡◌, ℕ, zero, suc, ◌+◌, ◌≤◌, true, List, [], ◌∷◌, map, Some, None, Option, nat_le, refl}
-use Rattle.std.proofs.Common.{sym, arith}
+use Rattle.std.proofs.Common.{sym, ap, ◌∙◌, arith}
 use Rattle.std.specs.List.{slice_get}
+use Rattle.std.specs.Option.{option_map}
+use Rattle.std.proofs.lemmas.Option.{slice_get-map}
 use Rattle.std.proofs.lemmas.Bool.{and_parts, and_from, leb-true, le-leb}
 use Rattle.std.proofs.lemmas.List.{length-map}
 use Rattle.documents.specs.declared.document.Document.{Document}
@@ -95,7 +97,9 @@ delayed_lawful (retiming a) p h =
       faithful = faithful_retimed d p.entry h.faithful;
     }
 
--- A limit may grow: no proof here cites it; proofs of a host's own may.
+-- No function's proof here cites the rest; proofs of a host's own may.
+
+-- A limit may grow.
 pub up_to_more : (l l' : ℕ) (o : Option ℕ) → l ≤ l' → up_to l o ≡ true → up_to l' o ≡ true
 up_to_more l l' (Some t) m h = le-leb t l' (omega (arith, leb-true t l h))
 up_to_more l l' None m h = refl
@@ -104,3 +108,17 @@ pub timely_more : (l l' : ℕ) (x : Document) → l ≤ l' → timely l x ≡ tr
 timely_more l l' x m h =
     let f = timely_facts l x h in
     timely-from l' x (record { available-in = omega (arith, f.available-in); begin-in = up_to_more l l' _ m f.begin-in; end-in = up_to_more l l' _ m f.end-in; dur-in = f.dur-in })
+
+-- A document at a place, and none there, once a function has gone over the list.
+pub nth_map : (f : Document → Document) (xs : List Document) (i : ℕ) (x : Document) → slice_get xs i ≡ Some x → slice_get (map f xs) i ≡ Some (f x)
+nth_map f xs i x e = slice_get-map f xs i ∙ ap (option_map f) e
+
+pub nth_map_none : (f : Document → Document) (xs : List Document) (i : ℕ) → slice_get xs i ≡ None → slice_get (map f xs) i ≡ None
+nth_map_none f xs i e = slice_get-map f xs i ∙ ap (option_map f) e
+
+-- What a node answers at a place, from what the stream below answers there.
+pub altered_at : (f : ℕ → Document → Document) (d e : ℕ) (xs : List Document) (i : ℕ) (x y : Document) → e ≡ d → y ≡ f e x → Some x ≡ slice_get xs i → Some y ≡ slice_get (map (f d) xs) i
+altered_at f d e xs i x y p q h = let k = nth_map (f d) xs i x (sym h) in cc
+
+pub altered_none : (f : ℕ → Document → Document) (d : ℕ) (xs : List Document) (i : ℕ) → None ≡ slice_get xs i → None ≡ slice_get (map (f d) xs) i
+altered_none f d xs i h = sym (nth_map_none (f d) xs i (sym h))

@@ -1,8 +1,9 @@
 -- Several nodes as one stream.
-use Rattle.std.specs.Prelude.{◌≡◌, List, [], ◌∷◌, take}
+use Rattle.std.specs.Prelude.{◌≡◌, ℕ, ◌+◌, List, [], ◌∷◌, take}
 use Rattle.std.proofs.Common.{ap}
+use Rattle.documents.specs.declared.document.Document.{Document}
 use Rattle.streams.specs.Streams.{Parts, Lawful}
-use Rattle.streams.specs.Stacks.{Delay, holding, retiming, delayed, stack}
+use Rattle.streams.specs.Stacks.{Delay, holding, retiming, adjustment, altered, delayed, stack}
 use Rattle.nodes.specs.declared.delay.pile.Node.{Node}
 use Rattle.nodes.specs.declared.delay.pile.Node.TheVariants.{Holder, Retimer}
 use Rattle.nodes.specs.declared.delay.pile.Nodes.{Nodes}
@@ -26,6 +27,16 @@ pile_parts (n ∷ ns) p = pile_parts ns (delayed (delay_of n) p)
 abbrev pub pile_nodes : List Node → List Delay → List Delay
 pile_nodes [] ks = ks
 pile_nodes (n ∷ ns) ks = pile_nodes ns (delay_of n ∷ ks)
+
+-- the total of nodes over a stream of this total
+abbrev pub pile_total : List Node → ℕ → ℕ
+pile_total [] total = total
+pile_total (n ∷ ns) total = pile_total ns (total + adjustment (delay_of n) total)
+
+-- a document as nodes over a stream of this total show it
+abbrev pub pile_altered : List Node → ℕ → Document → Document
+pile_altered [] total x = x
+pile_altered (n ∷ ns) total x = pile_altered ns (total + adjustment (delay_of n) total) (altered (delay_of n) (adjustment (delay_of n) total) x)
 
 pub pile_lawful : (ns : List Node) (p : Parts) → Lawful p → Lawful (pile_parts ns p)
 pile_lawful [] p h = h

@@ -1,8 +1,9 @@
+-- A text is its pieces, the first and then the rest.
 use Rattle.std.proofs.Common.{◌≡◌, ℕ, zero, suc, ◌+◌, ◌-◌, ◌<◌, ◌≤◌, min, Bool, true, false, cond, eqb, List, [], ◌∷◌, ◌++◌, length, get_or, take, drop, sym, refl, ap, ◌∙◌, ap₂, arith}
 use Rattle.std.specs.List.{position_or_len}
 use Rattle.std.proofs.lemmas.Grind.{common_steps}
 use Rattle.std.proofs.lemmas.List.{at_drop_more, at_drop_all, drop-drop, take_all, length-take-le, append_assoc, append-nil, length-append}
-use Rattle.std.proofs.lemmas.Bool.{ne_eqb, cond-false, cond_both}
+use Rattle.std.proofs.lemmas.Bool.{eq-eqb, ne_eqb, cond-false, cond_both}
 use Rattle.fields.specs.Parts.{Part, rest}
 use Rattle.plan.specs.Pieces.{longer, lines_of, is_blank, onto, between, kept_if, kept}
 use Rattle.plan.specs.Cutting.{line_end_of, feeds_of, left_at, piece_at, empty_at}
@@ -11,6 +12,22 @@ use Rattle.plan.specs.Cutting.{line_end_of, feeds_of, left_at, piece_at, empty_a
 pub line_is : (bs : List ℕ) → line_end_of bs ≡ min (position_or_len (λ b. eqb b 10) bs + 1) (length bs)
 line_is [] = refl
 line_is (b ∷ bs) = grind (arith, common_steps, line_is bs)
+
+-- The steps and the end of a scan of a line: no proof here cites these three; proofs of a host's own may.
+pub line_more : (i : ℕ) (bs : List ℕ) → i < length bs → (get_or bs i 0 ≡ 10 → ⊥) → line_end_of (drop i bs) ≡ suc (line_end_of (drop (i + 1) bs))
+line_more i bs l ne =
+    let e : line_end_of (drop i bs) ≡ cond (eqb (get_or bs i 0) 10) 1 (suc (line_end_of (drop (i + 1) bs))) = at_drop_more line_end_of bs i 0 l in
+    let f = ne_eqb (get_or bs i 0) 10 ne in
+    simp f at e
+
+pub line_here : (i : ℕ) (bs : List ℕ) → i < length bs → get_or bs i 0 ≡ 10 → line_end_of (drop i bs) ≡ 1
+line_here i bs l eq =
+    let e : line_end_of (drop i bs) ≡ cond (eqb (get_or bs i 0) 10) 1 (suc (line_end_of (drop (i + 1) bs))) = at_drop_more line_end_of bs i 0 l in
+    let f = eq-eqb (get_or bs i 0) 10 eq in
+    simp f at e
+
+pub line_none : (i : ℕ) (bs : List ℕ) → length bs ≤ i → line_end_of (drop i bs) ≡ 0
+line_none i bs l = at_drop_all line_end_of bs i l
 
 -- no piece begins in the line feeds in front
 feeds_skipped : (k : ℕ) (bs : List ℕ) → kept (between (k + feeds_of bs) (lines_of (drop (feeds_of bs) bs))) ≡ kept (between k (lines_of bs))

@@ -1,6 +1,7 @@
 -- A walk from the last document to the first lists what the definition lists.
-use Rattle.std.proofs.Common.{◌≡◌, ℕ, suc, ◌<◌, ◌≤◌, min, Bool, true, false, cond, ltb, List, [], ◌∷◌, ◌++◌, length, Some, None, Option, sym, refl, ap, ◌∙◌, ap₂, arith}
-use Rattle.std.proofs.lemmas.List.{append-nil, append_assoc}
+use Rattle.std.proofs.Common.{◌≡◌, ℕ, zero, suc, ◌+◌, ◌<◌, ◌≤◌, min, Bool, true, false, cond, ltb, List, [], ◌∷◌, ◌++◌, length, take, Some, None, Option, sym, refl, ap, ◌∙◌, ap₂, arith}
+use Rattle.std.specs.List.{slice_get}
+use Rattle.std.proofs.lemmas.List.{take_all, append-nil, append_assoc}
 use Rattle.std.proofs.lemmas.Bool.{lt-ltb, le-ltb, cond-true, cond-false, cond_both}
 use Rattle.documents.specs.declared.document.Document.{Document}
 use Rattle.streams.specs.Streams.{orderly}
@@ -101,6 +102,17 @@ rising w lim n a (d ∷ ds) h =
     (end_first w d ds w.end (own_within w d) up)
     (listed_after w d ds ds up ∙ rising w lim d.number d.available ds f.rest)
     ∙ cond_append (ltb (resolved_begin_of w d) (min (own_end_of w d) (least_of w w.end ds))) (cut_interval w (least_of w w.end ds) d) (intervals_before w w.end ds)
+
+-- Before a document that is not there, nothing is left out: no proof here cites it; proofs of a host's own may.
+pub intervals_past : (w : Window) (l : ℕ) (ds : List Document) (p i : ℕ) → None ≡ slice_get ds i → p ≡ i + 1 → intervals_before w l (take p ds) ≡ intervals_before w l (take i ds)
+intervals_past w l ds p i e s =
+    let h : length ds ≤ i = past ds i e in
+    ap (intervals_before w l) (take_all p ds (omega arith) ∙ sym (take_all i ds h))
+  where
+    past : (ds : List Document) (i : ℕ) → None ≡ slice_get ds i → length ds ≤ i
+    past [] i e = omega arith
+    past (d ∷ ds) zero e = let z : ◌≡◌ {A = ℕ} 0 1 = cc in absurd (omega arith)
+    past (d ∷ ds) (suc i) e = omega (arith, past ds i e)
 
 -- the whole walk
 pub schedule_walk : (w : Window) (lim l : ℕ) (ds es : List Document) → orderly lim 0 0 es ≡ true → ds ≡ es → l ≡ w.end → intervals_before w l ds ≡ schedule_of w es

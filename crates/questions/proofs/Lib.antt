@@ -1,4 +1,5 @@
 pub mod Backward
+pub mod Fills
 pub mod Lines
 pub mod Timetables
 pub mod Scanning

@@ -3,6 +3,7 @@
 ghost use Rattle.std.specs.Prelude.{◌≡◌, ◌+◌, ◌≤◌, false, List, [], ◌++◌, length, Some, None, true, min, IfOk, MatchResult, vec_len, OnOk};
 ghost use Rattle.questions.specs.Resolved.{window_for};
 ghost use Rattle.questions.specs.Texts.{schedule_text_of};
+ghost use Rattle.times.specs.Put.{put_before};
 ghost use Rattle.scripts.specs.Lines.{ScriptLine};
 ghost use Rattle.scripts.specs.Commands.{command_of};
 ghost use Rattle.scripts.specs.Left.{line_of, lines_left};
@@ -21,7 +22,7 @@ use documents::document::Document;
 use nodes::delay::approve;
 use nodes::delay::pile::{Node, Nodes, Pile};
 use nodes::making::PileOver;
-use questions::schedule::text::{schedule_text, text_length};
+use questions::schedule::text::{put_schedule, text_length};
 use questions::window::Window;
 use scripts::command::{Command, Start, read_command, read_start};
 use scripts::lines::Line;
@@ -36,6 +37,7 @@ use streams::prepared::{Entry, Prepared};
 use streams::stream::Stream;
 use streams::taking::TakingStream;
 use times::clock::LAST_MOMENT;
+use times::put::BackWriter;
 use times::refusal::Refusal;
 
 // The entry of a line, if it is one.
@@ -107,6 +109,13 @@ fn hands_in(asked: &Result<Call, Refusal>) -> bool
     matches!(asked, Ok(Call::HandIn(_)))
 }
 
+// Puts the schedule's text of a stack right before a place of an output. It makes its writer, as `put_front` of plan does.
+fn put_text<D: Stream>(stack: &D, window: Window, out: &mut [u8], end: usize)
+    ensures { out.new ≡ put_before end (schedule_text_of window (D.Stream.parts stack.now).shown) out.old }
+{
+    put_schedule(stack, window, &mut BackWriter::new(out, end));
+}
+
 // The schedule's text of a stack in the window from 0 to the last moment.
 fn schedule_of<D: Stream>(heap: Global, stack: &D) -> Result<Vec<u8>, AllocError>
     ensures { IfOk result (λ v. v.items ≡ schedule_text_of whole_window (D.Stream.parts stack.now).shown) }
@@ -114,8 +123,9 @@ fn schedule_of<D: Stream>(heap: Global, stack: &D) -> Result<Vec<u8>, AllocError
     let Ok(window) = Window::new(0, LAST_MOMENT) else {
         return Ok(Vec::new(heap));
     };
-    let mut text = vec![in heap; 0u8; text_length(stack, window)]?;
-    let _ = schedule_text(stack, window, text.as_mut_slice());
+    let length = text_length(stack, window);
+    let mut text = vec![in heap; 0u8; length]?;
+    put_text(stack, window, text.as_mut_slice(), length);
     Ok(text)
 }
 

@@ -4,7 +4,7 @@ ghost use Rattle.std.specs.Prelude.{◌≡◌, ◌≤◌, true, List, [], length
 ghost use Rattle.streams.specs.Prepared.{fits as fits_after, is_prepared_of, prepared_parts, prepared_lawful, opened_parts, opening_refusal};
 
 use crate::live::MOST_SHOWN;
-use crate::making::PreparedOver;
+use crate::making::{NotOpened, PreparedOver};
 use crate::stream::Stream;
 use documents::document::Document;
 use times::clock::{ENTRY_LIMIT, LAST_MOMENT};
@@ -47,11 +47,14 @@ fn is_prepared(entries: &[Entry]) -> bool
 }
 
 impl<'a> PreparedOver<'a> for Prepared<'a> {
-    fn open(entries: &'a [Entry]) -> Result<Prepared<'a>, Refusal> {
+    fn open(entries: &'a [Entry]) -> Result<Prepared<'a>, NotOpened<Prepared<'a>>> {
         if is_prepared(entries) {
             Ok(Prepared { entries })
         } else {
-            Err(Refusal::NotPrepared)
+            Err(NotOpened {
+                refusal: Refusal::NotPrepared,
+                list: Prepared { entries: &[] },
+            })
         }
     }
 }

@@ -1,9 +1,10 @@
 -- One text put before another is both put at once.
 use native.Mathlib.Numerals.{unary_clauses}
+use borrow.Rule.Slice.PartMut.{put_mid}
 use Rattle.std.proofs.Common.{◌≡◌, ℕ, ◌+◌, ◌-◌, ◌/◌, ◌%◌, ◌^◌, ◌*◌, zero, suc, ◌<◌, ◌≤◌, min, List, ◌++◌, length, take, drop, decimal, sym, refl, ap, ◌∙◌, ap₂, ⊎_elim, arith}
 use Rattle.std.proofs.Math.Nat.{one-le-pow}
 use Rattle.std.proofs.lemmas.Fmt.{decimal_digit, decimal_step, decimal_nonempty, length-decimal-le}
-use Rattle.std.proofs.lemmas.List.{append_assoc, length-append, length-take-le, length-drop, take-append-le, take-take, take_at, drop_at, drop_all, drop-append-le, drop-drop, length_push}
+use Rattle.std.proofs.lemmas.List.{append_assoc, length-append, length-take-le, length-drop, take-append-le, take-take, take_at, drop_at, drop_all, drop-append-le, drop-drop, take_rest, length_push}
 use Rattle.std.proofs.lemmas.Bool.{cases_lt}
 use Rattle.times.specs.declared.put.BackWriter.{BackWriter}
 use Rattle.times.specs.Put.{last_of, room, put_before, Puts}
@@ -106,9 +107,32 @@ put_front text out n e h =
     let b : length text - room n out ≡ 0 = omega arith in
     ap₂ (λ (x y : ℕ). take x out ++ (drop y text ++ drop n out)) a b
 
+drop-room : (end : ℕ) (out : List ℕ) → drop (room end out) out ≡ drop end out
+drop-room end out =
+    ⊎_elim
+    (λ (h : end < length out). ap (λ k. drop k out) (omega arith))
+    (λ (h : length out ≤ end). drop_all (room end out) out (omega arith) ∙ sym (drop_all end out h))
+    (cases_lt end (length out))
+
+-- What copying the part of a text that has room does: no proof here cites it; proofs of a host's own may.
+pub copied_part : (end n lost start : ℕ) (text out kept copied : List ℕ) → n ≡ room end out → lost ≡ length text - n → kept ≡ take (length text - lost) (drop lost text) → start ≡ n - length kept → copied ≡ kept
+    → (start ≡ room end out - length text) × (put_mid start (n - start) out copied ≡ put_before end text out)
+copied_part end n lost start text out kept copied en el ek es ec =
+    let k : kept ≡ last_of n text = ek ∙ take_rest text lost ∙ ap (λ j. drop j text) el in
+    let l : length kept ≡ min n (length text) = ap length k ∙ length_last n text in
+    let b : start ≡ n - length text = omega arith in
+    let d : drop (n - start) (drop start out) ≡ drop end out = drop-drop (n - start) start out ∙ ap (λ j. drop j out) (omega arith) ∙ drop-room end out in
+    let m : put_mid start (n - start) out copied ≡ put_before end text out =
+    ap₂ (λ (x y : List ℕ). take start out ++ (x ++ y)) (ec ∙ k) d ∙ ap₂ (λ (i j : ℕ). take i out ++ (last_of j text ++ drop end out)) (omega arith) en in
+    (omega arith, m)
+
 -- how long a number is
 pub length_more : (n : ℕ) → 10 ≤ n → n < 2 ^ 64 → length (decimal n) ≡ length (decimal (n / 10)) + 1
 length_more n h f = ap length (decimal_step n h f) ∙ length_push (decimal (n / 10)) (48 + n % 10)
+
+-- A number below ten is one digit long: no proof here cites it; proofs of a host's own may.
+pub length-one : (n : ℕ) → n < 10 → length (decimal n) ≡ 1
+length-one n h = ap length (decimal_digit n h)
 
 pub length_zero : (n : ℕ) → n ≡ 0 → 1 ≡ length (decimal n)
 length_zero n e = sym (ap length (decimal_digit n (omega (arith, e))))

@@ -108,7 +108,7 @@ impl Delaying for Nodes {
     fn total_over(&self, below: u32) -> u32 {
         let mut total = below;
         for node in self.all() {
-            total = node.total_over(total);
+            total = node.total_over(total); // which the next one stands over
         }
         total
     }
