@@ -2,3 +2,4 @@ pub mod Cuts
 pub mod Decimal
 pub mod Law
 pub mod Filled
+pub mod Skipped

@@ -1,5 +1,5 @@
 -- A text as its parts between separators.
-use Rattle.std.specs.Prelude.{◌≡◌, ℕ, suc, ◌+◌, ◌^◌, cond, List, [], ◌∷◌, ◌++◌, length, Some, None, Option, ◌==◌, ◌≢◌, nat_lt, slice_index_or}
+use Rattle.std.specs.Prelude.{◌≡◌, ℕ, suc, ◌+◌, ◌^◌, cond, ◌&&◌, List, [], ◌∷◌, ◌++◌, length, Some, None, Option, ◌==◌, ◌≢◌, nat_lt, slice_index_or}
 
 -- a part of a text, and how many bytes stand before it
 pub record Part : Type 0 where
@@ -23,6 +23,16 @@ parts_at sep k bs = cond (nat_lt (k + length bs) (2 ^ 63)) (parts sep k bs) []
 abbrev pub before : ℕ → List ℕ → ℕ
 before sep [] = 0
 before sep (b ∷ bs) = cond (b == sep) 0 (suc (before sep bs))
+
+-- how many separators a text begins with
+abbrev pub leading : ℕ → List ℕ → ℕ
+leading sep [] = 0
+leading sep (b ∷ bs) = cond (b == sep) (suc (leading sep bs)) 0
+
+-- parts from the first that has bytes or is the last
+abbrev pub past_empty : List Part → List Part
+past_empty [] = []
+past_empty (p ∷ ps) = cond (length p.bytes == 0 && nat_lt 0 (length ps)) (past_empty ps) (p ∷ ps)
 
 -- the part at a place of a list that is known to have it
 abbrev pub nth_part : List Part → ℕ → Part

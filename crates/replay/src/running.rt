@@ -1,6 +1,6 @@
 // A script's stack and its calls: from the bytes of a script to the bytes that are printed.
 
-ghost use Rattle.std.specs.Prelude.{◌≡◌, ◌+◌, ◌≤◌, false, List, [], ◌++◌, length, Some, None, true, min, IfOk, MatchResult, vec_len, OnOk};
+ghost use Rattle.std.specs.Prelude.{◌≡◌, ℕ, ◌+◌, ◌≤◌, false, List, [], ◌++◌, length, Some, None, true, min, IfOk, MatchResult, vec_len, OnOk};
 ghost use Rattle.questions.specs.Resolved.{window_for};
 ghost use Rattle.questions.specs.Texts.{schedule_text_of};
 ghost use Rattle.times.specs.Put.{put_before};
@@ -109,7 +109,8 @@ fn hands_in(asked: &Result<Call, Refusal>) -> bool
     matches!(asked, Ok(Call::HandIn(_)))
 }
 
-// Puts the schedule's text of a stack right before a place of an output. It makes its writer, as `put_front` of plan does.
+// Puts the schedule's text of a stack right before a place of an output. It makes its writer, as `put_front` of plan does:
+// made in `schedule_of`, the proof did not close over the output that it lends.
 fn put_text<D: Stream>(stack: &D, window: Window, out: &mut [u8], end: usize)
     ensures { out.new ≡ put_before end (schedule_text_of window (D.Stream.parts stack.now).shown) out.old }
 {
@@ -186,7 +187,8 @@ impl<'a> Run<'a> {
 
     // The call of a line, with its text if it hands one in, or the refusal of a question in what is no window; none where
     // it is no call that the stream takes. `takes` is a flag: it is no plainer as a type, which would be named at each of the
-    // three calls and mean no more there.
+    // three calls and mean no more there. In line for the same reason as `advance`.
+    #[inline(always)]
     fn call_of(&mut self, line: Line<'a>, takes: bool) -> Option<Result<Call<'a>, Refusal>>
         ensures call { with_step (step_of takes (command_of (line_of line.entry))) line.entry.number (read_calls_of self.old.reading.script.text.now takes None (lines_left self.old.reading.script)) (read_calls_of self.old.reading.script.text.now takes (Some line.entry.past) (lines_left self.old.reading.script)) ≡ with_ask result line.entry.number (read_calls_of self.old.reading.script.text.now takes None (lines_left self.new.reading.script)) }
         ensures fewer { length (lines_left self.new.reading.script) ≤ length (lines_left self.old.reading.script) }
@@ -306,14 +308,13 @@ impl<'a> Run<'a> {
         self.run_asked(&mut list, &mut second)
     }
 
-    // Runs the script after its first line, which has this number.
-    fn run_start(&mut self, start: Option<Start>, number: usize) -> Result<(), AllocError>
-        ensures { OnOk result (self.new.out.bytes.items ≡ self.old.out.bytes.items ++ start_text self.old.reading.script.text.now number start (waiting self.old.reading)) }
+    // Runs the script after its first line, which names this stream; what is printed then does not tell that line's number.
+    fn run_start(&mut self, start: Start) -> Result<(), AllocError>
+        ensures { (n : ℕ) → OnOk result (self.new.out.bytes.items ≡ self.old.out.bytes.items ++ start_text self.old.reading.script.text.now n (Some start) (waiting self.old.reading)) }
     {
         match start {
-            None => self.out.unreadable(number),
-            Some(Start::Live(count)) => self.run_live(count),
-            Some(Start::Prepared) => self.run_prepared(),
+            Start::Live(count) => self.run_live(count),
+            Start::Prepared => self.run_prepared(),
         }
     }
 
@@ -325,8 +326,11 @@ impl<'a> Run<'a> {
             let count = self.reading.script.count();
             return self.out.unreadable(count + 1);
         };
+        let Some(start) = read_start(line) else {
+            return self.out.unreadable(line.number);
+        };
         self.reading.advance();
-        self.run_start(read_start(line), line.number)
+        self.run_start(start)
     }
 }
 

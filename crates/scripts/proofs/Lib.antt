@@ -1,2 +1,3 @@
 pub mod Ends
 pub mod Columns
+pub mod Blanks

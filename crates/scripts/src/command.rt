@@ -119,31 +119,34 @@ fn worded(word: &[u8], fields: &mut Reader) -> Option<Command>
     ensures { result ≡ said_by word.now (left fields.old) }
 {
     // a chain of tests: of a `match` on the words the proof did not close, since `search` gave up at the longer ones
-    if is_text(word, b"entry") {
-        three(fields).map(|(begin, end, content)| {
-            Command::Entry(Entry {
-                begin,
-                end,
-                content,
-            })
+    let command = if is_text(word, b"entry") {
+        let (begin, end, content) = three(fields)?;
+        Command::Entry(Entry {
+            begin,
+            end,
+            content,
         })
     } else if is_text(word, b"holder") {
-        one(fields).map(Command::Holder)
+        Command::Holder(one(fields)?)
     } else if is_text(word, b"retimer") {
-        one(fields).map(Command::Retimer)
+        Command::Retimer(one(fields)?)
     } else if is_text(word, b"take") {
-        document(fields).map(Command::Take)
+        Command::Take(document(fields)?)
     } else if is_text(word, b"tick") {
-        one(fields).map(Command::Tick)
+        Command::Tick(one(fields)?)
     } else if is_text(word, b"active") {
-        three(fields).map(|(begin, end, moment)| Command::Active(begin, end, moment))
+        let (begin, end, moment) = three(fields)?;
+        Command::Active(begin, end, moment)
     } else if is_text(word, b"interval") {
-        three(fields).map(|(begin, end, number)| Command::Interval(begin, end, number))
+        let (begin, end, number) = three(fields)?;
+        Command::Interval(begin, end, number)
     } else if is_text(word, b"text") {
-        none(fields).map(|()| Command::Text)
+        none(fields)?;
+        Command::Text
     } else {
-        None
-    }
+        return None;
+    };
+    Some(command)
 }
 
 // What the first field of a script's first line and the fields after it say.
@@ -184,5 +187,8 @@ pub fn read_command(line: Line) -> Option<Command>
     }
     let mut fields = Reader::new(line.bytes, 0, COMMA);
     let word = fields.next()?;
-    worded(word.bytes, &mut fields) // the other fields follow its word
+    // by `?`, so that a line that says nothing leaves here: handed on, what it says would be put together as a command's is,
+    // before each test of a word, and every line would pay for that
+    let command = worded(word.bytes, &mut fields)?;
+    Some(command)
 }

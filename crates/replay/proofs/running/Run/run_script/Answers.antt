@@ -13,6 +13,6 @@ returns c =
     let line = c.in-Some.line in
     let w = vec_items c.args.self.now.out.bytes in
     on_ok_weaker c.run_start.result (λ h. h
-    ∙ ap₂ (λ (t : List ℕ) (o : Option Start). w ++ start_text t line.number o (waiting r')) (ap (λ t. t.now) c.advance.ensures.text) c.read_start.ensures
+    ∙ ap₂ (λ (t : List ℕ) (o : Option Start). w ++ start_text t line.number o (waiting r')) (ap (λ t. t.now) c.advance.ensures.text) c.in-Some-read_start.ensures
     ∙ ap (λ (t : List ℕ). w ++ t) (sym (lines_in_hand r r' line r.script.text.now (r.script.number + 1) c.in-Some.is c.advance.ensures.lines)))
-    c.run_start.ensures
+    (c.run_start.ensures line.number)
